@@ -1,0 +1,185 @@
+-- Laws of numbers as sets of bits (specs/Bits.antt). Assumes nothing.
+use Prim.Native.Nat.{ℕ, zero, suc, _+_, _-_, _*_, _/_, _%_, _^_, _≤_, _<_}
+use mathlib.Core.Path.{_≡_, refl, sym, ap, ap₂, _∙_, subst}
+use mathlib.Core.Bool.{Bool, true, false, not, _&&_, _||_}
+use mathlib.Core.List.{List, [], _∷_}
+use mathlib.Core.Logic.{⊎-elim}
+use native.Mathlib.Nat.{mul-add-mod-self-right, mod-eq-of-lt, pow-suc, mul-comm, mul-assoc, add-comm, zero-lt-suc, le-refl, lt-of-lt-of-le, le-of-suc-le-suc, not-suc-le-zero, eq-or-lt-of-le, le-step, add-mul-div-right, add-mul-mod-self-right, div-eq-of-lt, sub-add-cancel, zero-add, suc-add, div-one}
+use native.Mathlib.Omega.{arith}
+use native.Mathlib.Numerals.{add-one}
+use lib.Dec.{eqb}
+use lib.ListN.{length, getD}
+use lib.Arith.{digits-lt}
+use lib.Bits.{bitAnd, bitOr, bitXor, and-block, or-block, xor-block, or-shifted-r}
+use lib.Pow.{pow-pos, pow-mono, pow-add, high, shl-exact}
+use Rattle.automaton.specs.Bits.{bit, one, word, gather}
+
+pub one-lt : (b : Bool) → one b < 2
+one-lt true = omega arith
+one-lt false = omega arith
+
+pub word-lt : (f : ℕ → Bool) (n : ℕ) → word f n < 2 ^ n
+unfolding word
+word-lt f zero = omega arith
+word-lt f (suc n) = rw (pow-suc, mul-comm (2 ^ n) 2) (digits-lt (one-lt (f n)) (word-lt f n))
+
+one-odd : (b : Bool) → eqb (one b % 2) 1 ≡ b
+one-odd true = refl
+one-odd false = refl
+
+-- what stands above bit k does not change it
+above : (x y d k : ℕ) → (x * 2 ^ (suc d + k) + y) / 2 ^ k % 2 ≡ y / 2 ^ k % 2
+above x y d k =
+    ap (λ (m : ℕ). m / 2 ^ k % 2)
+    (add-comm (x * 2 ^ (suc d + k)) y ∙ ap (λ (m : ℕ). y + m) (ap (λ (m : ℕ). x * m) (pow-add 2 (suc d) k) ∙ sym (mul-assoc x (2 ^ suc d) (2 ^ k))))
+    ∙ ap (λ (m : ℕ). m % 2) (add-mul-div-right y (x * 2 ^ suc d) (pow-pos k))
+    ∙ ap (λ (m : ℕ). (y / 2 ^ k + m) % 2) (ap (λ (m : ℕ). x * m) (pow-suc 2 d) ∙ sym (mul-assoc x (2 ^ d) 2))
+    ∙ add-mul-mod-self-right (y / 2 ^ k) (x * 2 ^ d) 2
+
+above′ : (x y n k : ℕ) → k < n → (x * 2 ^ n + y) / 2 ^ k % 2 ≡ y / 2 ^ k % 2
+above′ x y n k h =
+    let e : suc (n - suc k) + k ≡ n = omega arith in
+    subst (λ (m : ℕ). (x * 2 ^ m + y) / 2 ^ k % 2 ≡ y / 2 ^ k % 2) e (above x y (n - suc k) k)
+
+pub bit-word : (f : ℕ → Bool) (n k : ℕ) → k < n → bit (word f n) k ≡ f k
+unfolding word bit
+bit-word f zero k h = absurd (not-suc-le-zero h)
+bit-word f (suc n) k h =
+    ⊎-elim
+    (λ e. subst (λ (m : ℕ). bit (word f (suc n)) m ≡ f m) (sym e) (ap (λ (m : ℕ). eqb (m % 2) 1) (high (one (f n)) n (word-lt f n)) ∙ one-odd (f n)))
+    (λ l. ap (λ (m : ℕ). eqb m 1) (above′ (one (f n)) (word f n) n k l) ∙ bit-word f n k l)
+    (eq-or-lt-of-le (le-of-suc-le-suc h))
+
+-- a number below 2 ^ n has no bit from n on
+pub bit-high : (x n k : ℕ) → x < 2 ^ n → n ≤ k → bit x k ≡ false
+unfolding bit
+bit-high x n k h l = ap (λ (m : ℕ). eqb (m % 2) 1) (div-eq-of-lt (lt-of-lt-of-le h (pow-mono l)))
+
+pub word-ext : (f g : ℕ → Bool) (n : ℕ) → ((k : ℕ) → k < n → f k ≡ g k) → word f n ≡ word g n
+unfolding word
+word-ext f g zero h = refl
+word-ext f g (suc n) h = ap₂ (λ (b : Bool) (m : ℕ). one b * 2 ^ n + m) (h n (le-refl (suc n))) (word-ext f g n (λ k l. h k (le-step l)))
+
+one-and : (a b : Bool) → bitAnd (one a) (one b) ≡ one (a && b)
+one-and true true = refl
+one-and true false = refl
+one-and false true = refl
+one-and false false = refl
+
+one-or : (a b : Bool) → bitOr (one a) (one b) ≡ one (a || b)
+one-or true true = refl
+one-or true false = refl
+one-or false true = refl
+one-or false false = refl
+
+one-xor : (a : Bool) → bitXor (one a) 1 ≡ one (not a)
+one-xor true = refl
+one-xor false = refl
+
+pub word-and : (f g : ℕ → Bool) (n : ℕ) → bitAnd (word f n) (word g n) ≡ word (λ k. f k && g k) n
+unfolding word
+word-and f g zero = refl
+word-and f g (suc n) =
+    and-block n (one (f n)) (one (g n)) (word f n) (word g n) (word-lt f n) (word-lt g n)
+    ∙ ap₂ (λ (x y : ℕ). x * 2 ^ n + y) (one-and (f n) (g n)) (word-and f g n)
+
+pub word-or : (f g : ℕ → Bool) (n : ℕ) → bitOr (word f n) (word g n) ≡ word (λ k. f k || g k) n
+unfolding word
+word-or f g zero = refl
+word-or f g (suc n) =
+    or-block n (one (f n)) (one (g n)) (word f n) (word g n) (word-lt f n) (word-lt g n)
+    ∙ ap₂ (λ (x y : ℕ). x * 2 ^ n + y) (one-or (f n) (g n)) (word-or f g n)
+
+pub word-not : (f : ℕ → Bool) (n : ℕ) → bitXor (word f n) (word (λ k. true) n) ≡ word (λ k. not (f k)) n
+unfolding word
+word-not f zero = refl
+word-not f (suc n) =
+    xor-block n (one (f n)) 1 (word f n) (word (λ k. true) n) (word-lt f n) (word-lt (λ k. true) n)
+    ∙ ap₂ (λ (x y : ℕ). x * 2 ^ n + y) (one-xor (f n)) (word-not f n)
+
+-- one more bit, set as the code sets it
+pub word-suc : (f : ℕ → Bool) (n : ℕ) → bitOr (word f n) (one (f n) * 2 ^ n) ≡ word f (suc n)
+unfolding word
+word-suc f n = or-shifted-r (one (f n)) n (word f n) (word-lt f n)
+
+-- a bit as a number
+pub bit-one : (x k : ℕ) → x / 2 ^ k % 2 ≡ one (bit x k)
+unfolding bit
+bit-one x k = digit (x / 2 ^ k % 2) (omega arith)
+  where
+    digit : (d : ℕ) → d < 2 → d ≡ one (eqb d 1)
+    digit zero h = refl
+    digit (suc zero) h = refl
+    digit (suc (suc d)) h = absurd (not-suc-le-zero (le-of-suc-le-suc (le-of-suc-le-suc h)))
+
+-- ---- a list as a number
+pub gather-lt : (bs : List Bool) → gather bs < 2 ^ length bs
+unfolding gather
+gather-lt bs = word-lt (λ j. getD bs j false) (length bs)
+
+pub bit-gather : (bs : List Bool) (k : ℕ) → k < length bs → bit (gather bs) k ≡ getD bs k false
+unfolding gather
+bit-gather bs k h = bit-word (λ j. getD bs j false) (length bs) k h
+
+-- ---- what the code's shifts do
+
+-- `x | (b << k)`, for an x with bits below k only
+pub set-shifted : (x k b : ℕ) → k < 64 → b < 2 → x < 2 ^ k → bitOr x (b * 2 ^ k % 2 ^ 64) ≡ b * 2 ^ k + x
+set-shifted x k b hk hb hx = ap (bitOr x) (shl-exact 1 k 64 hb (omega arith)) ∙ or-shifted-r b k x hx
+
+none : (n : ℕ) → word (λ v. false) n ≡ 0
+unfolding word
+none zero = refl
+none (suc n) = omega (arith, none n)
+
+-- no vector below 64 has a coordinate from 6 on
+pub no-coordinate : (j : ℕ) → 6 ≤ j → word (λ v. bit v j) 64 ≡ 0
+no-coordinate j h = word-ext (λ v. bit v j) (λ v. false) 64 (λ v l. bit-high v 6 j l h) ∙ none 64
+
+-- the turn of a loop that makes a word: bit n, as a number, is put above the bits below n
+pub word-step : (f : ℕ → Bool) (n x b : ℕ) → x ≡ word f n → b ≡ one (f n) → b * 2 ^ n + x ≡ word f (n + 1)
+unfolding word
+word-step f n x b ex eb = ap₂ (λ (y z : ℕ). y * 2 ^ n + z) eb ex ∙ ap (word f) (sym (add-one n))
+
+all : (n : ℕ) → word (λ v. true) n + 1 ≡ 2 ^ n
+unfolding word
+all zero = refl
+all (suc n) = rw pow-suc (omega (arith, all n))
+
+-- a word whose bits are all one bit
+pub same-false : (b : Bool) → b ≡ false → 0 ≡ word (λ v. b) 64
+same-false b e = sym (ap (λ (x : Bool). word (λ v. x) 64) e ∙ none 64)
+
+pub same-true : (b : Bool) → b ≡ true → 0xFFFF_FFFF_FFFF_FFFF ≡ word (λ v. b) 64
+same-true b e = omega (arith, all 64, ap (λ (x : Bool). word (λ v. x) 64) e)
+
+pub one-true : (b : Bool) → one b ≡ 1 → b ≡ true
+one-true true e = refl
+one-true false e = absurd (let z : ⊥ = omega arith in z)
+
+pub one-false : (b : Bool) → (one b ≡ 1 → ⊥) → b ≡ false
+one-false true f = absurd (f refl)
+one-false false f = refl
+
+-- `1 << w`
+pub one-shifted : (w : ℕ) → w ≤ 6 → 1 * 2 ^ w % 2 ^ 64 ≡ 2 ^ w
+one-shifted w h = shl-exact 1 w 64 (omega arith) (omega arith) ∙ omega arith
+
+-- what stands from bit k on does not change the bits below it
+cut : (x y n k : ℕ) → k ≤ n → (x * 2 ^ n + y) % 2 ^ k ≡ y % 2 ^ k
+cut x y n k h =
+    let e : 2 ^ n ≡ 2 ^ (n - k) * 2 ^ k = ap (λ (m : ℕ). 2 ^ m) (sym (sub-add-cancel h)) ∙ pow-add 2 (n - k) k in
+    ap (λ (m : ℕ). (m + y) % 2 ^ k) (ap (λ (m : ℕ). x * m) e ∙ sym (mul-assoc x (2 ^ (n - k)) (2 ^ k))) ∙ mul-add-mod-self-right (x * 2 ^ (n - k)) (2 ^ k) y
+
+-- the low bits of a word
+pub word-mod : (f : ℕ → Bool) (n k : ℕ) → k ≤ n → word f n % 2 ^ k ≡ word f k
+unfolding word
+word-mod f zero k h = let e : k ≡ 0 = omega arith in subst (λ (i : ℕ). 0 % 2 ^ i ≡ word f i) (sym e) refl
+word-mod f (suc n) k h =
+    ⊎-elim (λ e. subst (λ (i : ℕ). word f (suc n) % 2 ^ i ≡ word f i) (sym e) (mod-eq-of-lt (word-lt f (suc n))))
+    (λ l. cut (one (f n)) (word f n) n k (le-of-suc-le-suc l) ∙ word-mod f n k (le-of-suc-le-suc l))
+    (eq-or-lt-of-le h)
+
+-- `1 << k`
+pub bit-shifted : (k : ℕ) → k < 64 → 1 * 2 ^ k % 2 ^ 64 ≡ 2 ^ k
+bit-shifted k h = shl-exact 1 k 64 (omega arith) (omega arith) ∙ omega arith

@@ -1,0 +1,33 @@
+-- `automaton::coordinates::start_word` meets its contract. Assumes nothing.
+use Prim.Native.Nat.{ℕ, _%_, _<_}
+use native.Mathlib.Omega.{arith}
+use lib.Pow.{pow-pos}
+use mathlib.Core.Path.{_≡_, sym, ap, ap₂, _∙_}
+use Rattle.automaton.specs.Bits.{bit, word}
+use Rattle.automaton.proofs.BitLaws.{word-mod, bit-shifted}
+use borrow.Author.Needs.{needs}
+use Rattle.automaton.proofs.coordinates.start_word.Statement.{statement}
+use Rattle.automaton.proofs.coordinates.start_word.Tie as tie
+
+coordinate-requires : tie.Need-coordinate-requires
+coordinate-requires c κs = search needs
+
+shl-result : tie.Need-shl-result
+shl-result c = search needs
+
+rem-result : tie.Need-rem-result
+rem-result c = rw (bit-shifted (c .before .before .args .vectors) (c .if1 .taken)) (pow-pos (c .before .before .args .vectors))
+
+returns : tie.Need-returns
+returns c =
+    let n = c .before .before .args .vectors in
+    let h : n < 64 = c .if1 .taken in
+    ap₂ (λ (x y : ℕ). x % y) (c .before .coordinate .ensures) (bit-shifted n h) ∙ word-mod (λ v. bit v 0) 64 n (omega arith)
+
+returns-2 : tie.Need-returns-2
+returns-2 c =
+    let e : 64 ≡ c .before .before .args .vectors = omega arith in
+    c .before .coordinate .ensures ∙ ap (word (λ v. bit v 0)) e
+
+pub start-word-spec : {M : Type 1} → statement M
+start-word-spec = tie.close (tie.spec coordinate-requires shl-result rem-result returns returns-2)

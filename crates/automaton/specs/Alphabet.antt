@@ -1,0 +1,29 @@
+-- Letters (01, "Letters"): i inputs and o outputs make 2^i input numbers, 2^o output numbers and L = 2^(i+o) letters.
+-- Assumes nothing.
+use Prim.Native.Nat.{ℕ, _+_, _*_, _^_, _<_}
+use mathlib.Core.Bool.{Bool, _||_}
+use mathlib.Core.List.{List, [], _∷_}
+use lib.Dec.{ltb}
+use lib.ListN.{length}
+use Rattle.reader.specs.Limits.{textLimit}
+
+-- refusal 1: more than 4 inputs or outputs
+abbrev pub badAlphabet : ℕ → ℕ → Bool
+badAlphabet i o = ltb 4 i || ltb 4 o
+
+-- refusal 2: a text over 255 bytes
+abbrev pub tooLong : List ℕ → Bool
+tooLong text = ltb textLimit (length text)
+
+-- the number L of letters
+abbrev pub letterCount : ℕ → ℕ → ℕ
+letterCount i o = 2 ^ (i + o)
+
+-- the letter of input x and output y, where there are `inputs` input numbers
+abbrev pub letterOf : ℕ → ℕ → ℕ → ℕ
+letterOf inputs x y = x + inputs * y
+
+-- every letter of the list is below L
+unfoldable pub Letters : ℕ → List ℕ → Type 0
+Letters L [] = Unit {0}
+Letters L (a ∷ w) = (a < L) × Letters L w

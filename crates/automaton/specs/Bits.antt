@@ -1,0 +1,25 @@
+-- Numbers as sets of bits: a letter, a valuation and a state are each such a number (01, "Letters" and "The automaton").
+-- Assumes nothing.
+use Prim.Native.Nat.{ℕ, zero, suc, _+_, _*_, _/_, _%_, _^_}
+use mathlib.Core.Bool.{Bool, true, false}
+use mathlib.Core.List.{List}
+use lib.Dec.{eqb}
+use lib.ListN.{length, getD}
+
+-- bit k of x
+unfoldable pub bit : ℕ → ℕ → Bool
+bit x k = eqb (x / 2 ^ k % 2) 1
+
+abbrev pub one : Bool → ℕ
+one true = 1
+one false = 0
+
+-- the number whose bit k is f k for each k below n, and whose other bits are 0
+unfoldable pub word : (ℕ → Bool) → ℕ → ℕ
+word f zero = 0
+word f (suc n) = one (f n) * 2 ^ n + word f n
+
+-- the number whose bits are those of a list, bit 0 first
+unfoldable pub gather : List Bool → ℕ
+unfolding word
+gather bs = word (λ j. getD bs j false) (length bs)

@@ -1,0 +1,43 @@
+-- The condition (01, "Rule text" and "The game and its tables"), which the field calls the assumption: a formula over the inputs,
+-- judged on one input number. The layer's call turns its text into a mask; its answer is the declared type `Assumption`, its order of refusals 1, 2, 7, 8.
+-- Assumes nothing.
+use Prim.Native.Nat.{ℕ, _^_, _<_}
+use mathlib.Core.Path.{_≡_}
+use mathlib.Core.Bool.{Bool, true, cond}
+use mathlib.Core.List.{List, [], _∷_}
+use mathlib.Core.Logic.{_↔_}
+use Rattle.reader.specs.declared.reading.Reading.{Reading}
+use Rattle.reader.specs.declared.refusal.Refusal.{Refusal}
+use Rattle.reader.specs.declared.refusal.Refusal.the-variants.{Nothing, Alphabet, TextLength}
+use Rattle.reader.specs.Formula.{Formula}
+use Rattle.reader.specs.Marks.{conditionKind}
+use Rattle.reader.specs.Reading.{ReadingOf, IsGood}
+use Rattle.reader.specs.Refusal.{isNothing, afterCondition}
+use Rattle.automaton.specs.declared.condition.Assumption.{Assumption}
+use Rattle.automaton.specs.declared.condition.Assumption.the-variants.{Mask, Refused}
+use Rattle.automaton.specs.Alphabet.{badAlphabet, tooLong}
+use Rattle.automaton.specs.Bits.{bit, word}
+use Rattle.automaton.specs.Trace.{Satisfies}
+use Rattle.automaton.specs.Valuation.{value}
+
+-- the mask of a condition: bit x says whether input number x has it
+unfoldable pub maskOf : Formula → ℕ → ℕ
+unfolding value word
+maskOf κ i = word (λ x. value κ 1 x 0) (2 ^ i)
+
+-- a mask judges each input number as the condition does on that input alone
+abbrev pub Judges : Formula → ℕ → ℕ → Type 0
+Judges κ i mask = (x : ℕ) → x < 2 ^ i → (bit mask x ≡ true) ↔ Satisfies κ (x ∷ [])
+
+-- the refusal that comes first, for a text with the reading ρ
+unfoldable pub conditionRefusal : ℕ → List ℕ → Reading → Refusal
+conditionRefusal i text ρ = cond (badAlphabet i 0) Alphabet (cond (tooLong text) TextLength (afterCondition ρ Nothing))
+
+-- the whole promise
+pub record Conditioned (i : ℕ) (text : List ℕ) (r : Assumption) : Type 0 where
+  pub reading : Reading
+  pub read : ReadingOf i (conditionKind i) text reading
+  pub refusal : Refusal
+  pub first : refusal ≡ conditionRefusal i text reading
+  pub refused : (refusal ≡ Nothing → ⊥) → r ≡ Refused refusal
+  pub served : refusal ≡ Nothing → (κ : Formula) × IsGood i (conditionKind i) text κ × (r ≡ Mask (maskOf κ i)) × Judges κ i (maskOf κ i)

@@ -1,0 +1,68 @@
+-- The automaton layer's own call: from a rule's text to transitions and accepting flags. Its answer is the declared type `Construction`.
+-- 01 names no such call; its order of refusals is that of a rule with the game's and the condition's left out: 1, 2, 3, 4, 5, 6, 9.
+-- Assumes nothing.
+use Prim.Native.Nat.{ℕ, _*_}
+use mathlib.Core.Path.{_≡_}
+use mathlib.Core.Bool.{Bool, cond, _||_}
+use mathlib.Core.List.{List}
+use lib.Dec.{ltb}
+use lib.ListN.{length}
+use Rattle.reader.specs.declared.reading.Reading.{Reading}
+use Rattle.reader.specs.declared.refusal.Refusal.{Refusal}
+use Rattle.reader.specs.declared.refusal.Refusal.the-variants.{Nothing, Alphabet, TextLength, Buffer, StateCount}
+use Rattle.reader.specs.Formula.{Formula}
+use Rattle.reader.specs.Marks.{ruleKind}
+use Rattle.reader.specs.Reading.{ReadingOf, IsGood}
+use Rattle.reader.specs.Refusal.{isNothing, afterRule}
+use Rattle.automaton.specs.declared.construct.Construction.{Construction}
+use Rattle.automaton.specs.declared.construct.Construction.the-variants.{Built, Refused}
+use Rattle.automaton.specs.Limits.{stateLimit}
+use Rattle.automaton.specs.Alphabet.{badAlphabet, tooLong, letterCount}
+use Rattle.automaton.specs.Discovery.{stateCount}
+use Rattle.automaton.specs.Automaton.{Automaton, TooManyStates, Cleared}
+
+-- n is the number of the rule's states, if the text is a rule within its limits
+abbrev pub CountOf : ℕ → ℕ → List ℕ → ℕ → Type 0
+CountOf i o text n = (φ : Formula) → IsGood i (ruleKind i o) text φ → n ≡ stateCount φ (letterCount i o)
+
+-- the buffers are too short for 128 states
+abbrev pub shortAutomaton : ℕ → List ℕ → List ℕ → Bool
+shortAutomaton L transitions accepting = ltb (length transitions) (stateLimit * L) || ltb (length accepting) stateLimit
+
+-- the refusal that comes first, for a text with the reading ρ whose rule has n states
+unfoldable pub constructRefusal : ℕ → ℕ → List ℕ → List ℕ → List ℕ → Reading → ℕ → Refusal
+constructRefusal i o text transitions accepting ρ n =
+    cond (badAlphabet i o) Alphabet
+    (cond (tooLong text) TextLength
+    (cond (shortAutomaton (letterCount i o) transitions accepting) Buffer
+    (afterRule ρ
+    (cond (ltb stateLimit n) StateCount Nothing))))
+
+-- the buffers of a served call: the automaton of the text's formula with n states, 0 up to 128 states' share, and beyond as they were
+pub record Served (i o : ℕ) (text : List ℕ) (n : ℕ) (transitions accepting transitions′ accepting′ : List ℕ) : Type 0 where
+  pub formula : Formula
+  pub good : IsGood i (ruleKind i o) text formula
+  pub automaton : Automaton formula (letterCount i o) n transitions′ accepting′
+  pub transitions-rest : Cleared (n * letterCount i o) (stateLimit * letterCount i o) transitions transitions′
+  pub accepting-rest : Cleared n stateLimit accepting accepting′
+
+-- the buffers after refusal 9: the transitions' share is 0
+pub record Over (i o : ℕ) (text transitions accepting transitions′ accepting′ : List ℕ) : Type 0 where
+  pub formula : Formula
+  pub good : IsGood i (ruleKind i o) text formula
+  pub many : TooManyStates formula (letterCount i o)
+  pub cleared : Cleared 0 (stateLimit * letterCount i o) transitions transitions′
+  pub untouched : accepting′ ≡ accepting
+
+-- the whole promise: the answer and both buffers on every input
+pub record Constructed (i o : ℕ) (text transitions accepting transitions′ accepting′ : List ℕ) (r : Construction) : Type 0 where
+  pub reading : Reading
+  pub read : ReadingOf i (ruleKind i o) text reading
+  pub states : ℕ
+  pub counted : CountOf i o text states
+  pub refusal : Refusal
+  pub first : refusal ≡ constructRefusal i o text transitions accepting reading states
+  pub answer : r ≡ cond (isNothing refusal) (Built states) (Refused refusal)
+  pub served : refusal ≡ Nothing → Served i o text states transitions accepting transitions′ accepting′
+  pub over : refusal ≡ StateCount → Over i o text transitions accepting transitions′ accepting′
+  pub untouched : (refusal ≡ Nothing → ⊥) → (refusal ≡ StateCount → ⊥) → (transitions′ ≡ transitions) × (accepting′ ≡ accepting)

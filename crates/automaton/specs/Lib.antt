@@ -1,0 +1,12 @@
+pub mod Limits
+pub mod Alphabet
+pub mod Bits
+pub mod Trace
+pub mod Valuation
+pub mod State
+pub mod Discovery
+pub mod Representation
+pub mod Automaton
+pub mod Construction
+pub mod Condition
+pub mod Trial

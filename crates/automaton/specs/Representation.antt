@@ -1,0 +1,22 @@
+-- What the functions below the calls hand to each other: the nodes of a formula, and the table of its valuations.
+-- No promise of a call that 01 names rests on this file.
+-- Assumes nothing.
+use Prim.Native.Nat.{ℕ, _+_, _*_, _≤_, _<_}
+use mathlib.Core.Path.{_≡_}
+use mathlib.Core.List.{List}
+use lib.ListN.{getD}
+use Rattle.reader.specs.Limits.{nodeLimit, operatorLimit}
+use Rattle.reader.specs.Formula.{Formula, size, operators}
+use Rattle.reader.specs.Nodes.{nodesOf}
+use Rattle.automaton.specs.Valuation.{present, vectors}
+
+-- the first m words of the buffer are the nodes of the formula, which is within the limits
+pub record Represents (nodes : List ℕ) (m : ℕ) (φ : Formula) : Type 0 where
+  pub count : m ≡ size φ
+  pub few-nodes : size φ ≤ nodeLimit
+  pub few-operators : operators φ ≤ operatorLimit
+  pub words : (j : ℕ) → j < m → getD nodes j 0 ≡ getD (nodesOf φ) j 0
+
+-- entry a * 64 + v of the table is the valuation that letter a makes from v
+unfoldable pub Tabulates : Formula → ℕ → List ℕ → Type 0
+Tabulates φ L table = (a v : ℕ) → a < L → v < vectors φ → getD table (a * 64 + v) 0 ≡ present φ a v

@@ -1,0 +1,29 @@
+-- The states of a formula's automaton (01, "The automaton"): a state is a set of valuations, given as the number whose bit v says that v is in it.
+-- Assumes nothing.
+use Prim.Native.Nat.{ℕ}
+use mathlib.Core.Bool.{Bool}
+use mathlib.Core.List.{List, [], _∷_}
+use Rattle.reader.specs.Formula.{Formula}
+use Rattle.automaton.specs.Bits.{bit, word}
+use Rattle.automaton.specs.Valuation.{present, endVector, vectors}
+
+-- the start holds the valuations whose coordinate 0 is 1
+unfoldable pub start : Formula → ℕ
+unfolding word bit vectors
+start φ = word (λ v. bit v 0) (vectors φ)
+
+-- after a letter, a state holds v where the old one holds the valuation that the letter makes from v
+unfoldable pub after : Formula → ℕ → ℕ → ℕ
+unfolding word bit present vectors
+after φ s a = word (λ v. bit s (present φ a v)) (vectors φ)
+
+-- an accepting state, which 01 calls a goal, holds the end valuation
+unfoldable pub accepts : Formula → ℕ → Bool
+unfolding bit endVector
+accepts φ s = bit s (endVector φ)
+
+-- the state after a list of letters
+unfoldable pub run : Formula → ℕ → List ℕ → ℕ
+unfolding after
+run φ s [] = s
+run φ s (a ∷ w) = run φ (after φ s a) w

@@ -1,0 +1,20 @@
+// Single bits of a word.
+ghost use mathlib.Core.Path.{_≡_};
+ghost use Prim.Native.Nat.{_+_, _*_, _<_, _^_};
+ghost use Rattle.automaton.specs.Bits.{bit, one};
+
+// Bit k of x.
+pub(crate) fn test_bit(x: u64, k: u64) -> u64
+    requires { ⌜ k < 64 ⌝ }
+    ensures { λ r. ⌜ r ≡ one (bit x k) ⌝ }
+{
+    (x >> k) % 2
+}
+
+// x, which has only bits below k, with bit k set as b says.
+pub(crate) fn set_bit(x: u64, k: u64, b: u64) -> u64
+    requires { ⌜ (k < 64) × (b < 2) × (x < 2 ^ k) ⌝ }
+    ensures { λ r. ⌜ r ≡ b * 2 ^ k + x ⌝ }
+{
+    x | (b << k)
+}

@@ -1,0 +1,6 @@
+// The automaton of a rule, the mask of a condition, and the trial of a rule on a list of letters.
+mod bits;
+pub mod condition;
+pub mod construct;
+mod coordinates;
+pub mod trial;

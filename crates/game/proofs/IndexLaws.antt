@@ -1,0 +1,29 @@
+-- Laws of indices into transitions and tables.
+-- Assumes nothing.
+use Prim.Native.Nat.{ℕ, suc, _+_, _*_, _<_, _≤_}
+use native.Mathlib.Nat.{mul-le-mul, mul-le-mul-left, mul-le-mul-right, mul-suc, suc-mul}
+use native.Mathlib.Omega.{arith}
+
+-- a letter's number is below the number of letters
+pub letter-below : (P Q x y : ℕ) → x < P → y < Q → x + P * y < P * Q
+letter-below P Q x y hx hy = omega (arith, mul-le-mul-left P hy, mul-suc P y)
+
+-- row s of n rows, each k long
+pub row-below : (n k s j : ℕ) → s < n → j < k → s * k + j < n * k
+row-below n k s j hs hj = omega (arith, mul-le-mul-right k hs, suc-mul s k)
+
+pub product-small : (a b c d : ℕ) → a ≤ c → b ≤ d → a * b ≤ c * d
+product-small a b c d h k = mul-le-mul h k
+
+pub record At (n P Q s x y : ℕ) : Type 0 where
+  pub letters : P * Q ≤ 256
+  pub row : s * (P * Q) ≤ 32768
+  pub column : P * y ≤ 256
+  pub below : s * (P * Q) + (x + P * y) < n * (P * Q)
+
+pub at-facts : (n P Q s x y : ℕ) → n ≤ 128 → P ≤ 16 → Q ≤ 16 → s < n → x < P → y < Q → At n P Q s x y
+at-facts n P Q s x y hn hP hQ hs hx hy =
+    let l : P * Q ≤ 256 = mul-le-mul hP hQ in
+    let s′ : s ≤ 128 = omega arith in
+    let y′ : y ≤ 16 = omega arith in
+    record { letters = l; row = mul-le-mul s′ l; column = mul-le-mul hP y′; below = row-below n (P * Q) s (x + P * y) hs (letter-below P Q x y hx hy) }

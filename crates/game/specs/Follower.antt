@@ -1,0 +1,47 @@
+-- The follower (01, "Given automata, follower, trial, program"): one step of the system's strategy from a position, which is a state and whether a goal was entered.
+-- Its answer is the declared type `Followed`; its order is 1, 10, 3, 12, 13, "no row", 11.
+-- Assumes nothing.
+use Prim.Native.Nat.{ℕ, _+_, _*_}
+use mathlib.Core.Bool.{Bool, cond, _||_}
+use mathlib.Core.List.{List}
+use lib.Dec.{ltb, leb}
+use lib.ListN.{length}
+use Rattle.reader.specs.declared.refusal.Refusal.{Refusal}
+use Rattle.reader.specs.declared.refusal.Refusal.the-variants.{Alphabet, Buffer, GivenCount, Move, State, Value}
+use Rattle.automaton.specs.Alphabet.{badAlphabet}
+use Rattle.game.specs.declared.follow.Position.{Position}
+use Rattle.game.specs.declared.follow.Followed.{Followed}
+use Rattle.game.specs.declared.follow.Followed.the-variants.{Moved, NoRow, Refused}
+use Rattle.game.specs.Arena.{Arena, moveIndex, next, goal}
+use Rattle.game.specs.Strategy.{systemByte}
+use Rattle.game.specs.Given.{badCount, shortRead}
+
+-- refusal 3, for the table that is read: n states' share
+abbrev pub shortStrategy : Arena → List ℕ → Bool
+shortStrategy G σ = ltb (length σ) (G .states * G .inputs)
+
+-- the position after a step into state t
+abbrev pub positionAt : Arena → Position → ℕ → Position
+positionAt G p t = record { state = t; reached = p .reached || goal G t }
+
+-- the move by output y: refused where it leads to no state
+abbrev pub movedBy : Arena → Position → ℕ → ℕ → Followed
+movedBy G p x y =
+    cond (leb (G .states) (next G (p .state) x y)) (Refused (Move (moveIndex G (p .state) x y)))
+    (Moved y (positionAt G p (next G (p .state) x y)))
+
+-- the answer once the numbers i, o and n are in range: 3, 12, 13, "no row", 11
+unfoldable pub laterFollowed : Arena → List ℕ → Position → ℕ → Followed
+unfolding next goal
+laterFollowed G σ p x =
+    cond (shortRead G || shortStrategy G σ) (Refused Buffer)
+    (cond (leb (G .states) (p .state)) (Refused State)
+    (cond (leb (G .inputs) x) (Refused (Value 0))
+    (cond (leb (G .outputs) (systemByte G σ (p .state) x)) NoRow
+    (movedBy G p x (systemByte G σ (p .state) x)))))
+
+-- the answer on every input
+unfoldable pub followed : ℕ → ℕ → Arena → List ℕ → Position → ℕ → Followed
+unfolding laterFollowed
+followed i o G σ p x =
+    cond (badAlphabet i o) (Refused Alphabet) (cond (badCount (G .states)) (Refused GivenCount) (laterFollowed G σ p x))

@@ -1,0 +1,63 @@
+-- The call for a given automaton (01, "Given automata, follower, trial, program" and "What a refusal hands back").
+-- Its answer is the declared type `Answer`; its order of refusals is 1, 10, 3, 12, 11, 13.
+-- Assumes nothing.
+use Prim.Native.Nat.{ℕ, _+_, _*_, _/_, _^_}
+use mathlib.Core.Path.{_≡_}
+use mathlib.Core.Bool.{Bool, not, cond, _||_}
+use mathlib.Core.List.{List}
+use lib.Dec.{eqb, ltb, leb}
+use lib.ListN.{length, take}
+use Rattle.reader.specs.declared.refusal.Refusal.{Refusal}
+use Rattle.reader.specs.declared.refusal.Refusal.the-variants.{Nothing, Alphabet, Buffer, GivenCount, Move, State, Value}
+use Rattle.automaton.specs.Limits.{stateLimit}
+use Rattle.automaton.specs.Alphabet.{badAlphabet}
+use Rattle.automaton.specs.Trial.{afterList}
+use Rattle.game.specs.declared.answer.Answer.{Answer}
+use Rattle.game.specs.declared.answer.Answer.the-variants.{Can, Cannot, Refused}
+use Rattle.game.specs.Arena.{Arena}
+use Rattle.game.specs.Tables.{Tables, Verdict}
+
+-- refusal 10: no states, or more than 128
+abbrev pub badCount : ℕ → Bool
+badCount n = eqb n 0 || ltb stateLimit n
+
+-- the transitions of the n states
+abbrev pub moveCount : Arena → ℕ
+moveCount G = G .states * (G .inputs * G .outputs)
+
+-- refusal 3, for what is read: n states' share
+abbrev pub shortRead : Arena → Bool
+shortRead G = ltb (length (G .transitions)) (moveCount G) || ltb (length (G .accepting)) (G .states)
+
+-- refusal 3, for the tables: 128 states' share
+abbrev pub shortTables : Arena → List ℕ → List ℕ → Bool
+shortTables G σ τ = ltb (length σ) (stateLimit * G .inputs) || ltb (length τ) stateLimit
+
+-- refusal 13: the mask has a bit from 2^i up
+abbrev pub badMask : Arena → Bool
+badMask G = not (eqb (G .mask / 2 ^ G .inputs) 0)
+
+-- the later refusals, once the numbers i, o and n are in range: 3, 12, 11, 13
+unfoldable pub laterRefusal : ℕ → Arena → List ℕ → List ℕ → Refusal
+laterRefusal start G σ τ =
+    cond (shortRead G || shortTables G σ τ) Buffer
+    (cond (leb (G .states) start) State
+    (afterList (G .states) (take (moveCount G) (G .transitions)) Move
+    (cond (badMask G) (Value 0) Nothing)))
+
+-- the refusal that comes first
+unfoldable pub givenRefusal : ℕ → ℕ → ℕ → Arena → List ℕ → List ℕ → Refusal
+givenRefusal i o start G σ τ = cond (badAlphabet i o) Alphabet (cond (badCount (G .states)) GivenCount (laterRefusal start G σ τ))
+
+-- the answer of a served call on n states
+abbrev pub verdictOf : Bool → ℕ → Answer
+verdictOf can n = cond can (Can n) (Cannot n)
+
+-- the promise with this refusal coming first: the answer and both tables on every input
+pub record Solved (refusal : Refusal) (fair : Bool) (start : ℕ) (G : Arena) (σ₀ τ₀ σ τ : List ℕ) (r : Answer) : Type 0 where
+  pub refused : (refusal ≡ Nothing → ⊥) → (r ≡ Refused refusal) × (σ ≡ σ₀) × (τ ≡ τ₀)
+  pub served : refusal ≡ Nothing → (can : Bool) × (r ≡ verdictOf can (G .states)) × Tables fair G σ₀ τ₀ σ τ × Verdict fair G σ τ start can
+
+-- the whole promise
+abbrev pub GivenSolved : Bool → ℕ → ℕ → ℕ → Arena → List ℕ → List ℕ → List ℕ → List ℕ → Answer → Type 0
+GivenSolved fair i o start G σ₀ τ₀ σ τ r = Solved (givenRefusal i o start G σ₀ τ₀) fair start G σ₀ τ₀ σ τ r

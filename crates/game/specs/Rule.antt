@@ -1,0 +1,98 @@
+-- The rule call (01, "The game and its tables"): demands 1, 2 and 3 for a rule. Its answer is the declared type `Answer`; its order of refusals is 1 to 9.
+-- Assumes nothing.
+use Prim.Native.Nat.{ℕ, _*_, _^_, _<_, _≤_}
+use mathlib.Core.Path.{_≡_}
+use mathlib.Core.Bool.{Bool, true, false, cond, _||_}
+use mathlib.Core.List.{List}
+use lib.Dec.{ltb}
+use lib.ListN.{length, take}
+use Rattle.reader.specs.declared.reading.Reading.{Reading}
+use Rattle.reader.specs.declared.refusal.Refusal.{Refusal}
+use Rattle.reader.specs.declared.refusal.Refusal.the-variants.{Nothing, Alphabet, TextLength, Buffer, StateCount}
+use Rattle.reader.specs.Formula.{Formula}
+use Rattle.reader.specs.Marks.{ruleKind, conditionKind}
+use Rattle.reader.specs.Reading.{ReadingOf, IsGood}
+use Rattle.reader.specs.Refusal.{afterRule, afterCondition}
+use Rattle.automaton.specs.Limits.{stateLimit}
+use Rattle.automaton.specs.Alphabet.{badAlphabet, tooLong, letterCount}
+use Rattle.automaton.specs.Trace.{Satisfies}
+use Rattle.automaton.specs.Automaton.{Automaton, TooManyStates, Cleared}
+use Rattle.automaton.specs.Construction.{CountOf, shortAutomaton, Over}
+use Rattle.automaton.specs.Condition.{Judges}
+use Rattle.game.specs.declared.answer.Answer.{Answer}
+use Rattle.game.specs.declared.answer.Answer.the-variants.{Refused}
+use Rattle.game.specs.Arena.{Arena, arena}
+use Rattle.game.specs.Play.{Step, run, letters, Along}
+use Rattle.game.specs.Strategy.{systemByte, environmentByte, BySystem, ByEnvironment, Assumed, Failed}
+use Rattle.game.specs.Tables.{Tables, Verdict}
+use Rattle.game.specs.Given.{verdictOf}
+
+-- a beginning of the play, its first k steps for a k from 1 to its length, satisfies the rule
+abbrev pub Satisfied : Formula → Arena → List Step → Type 0
+Satisfied φ G p = (k : ℕ) × (0 < k) × (k ≤ length p) × Satisfies φ (take k (letters G p))
+
+-- "can": every play from the start that follows the system's strategy has a beginning that satisfies the rule, where the condition has come often enough,
+-- and until then comes to no byte that is no output
+pub record Can (fair : Bool) (φ : Formula) (G : Arena) (σ : List ℕ) : Type 0 where
+  pub satisfying : (p : List Step) → Along G (BySystem G σ) 0 p → Assumed fair G p → Satisfied φ G p
+  pub answers : (p : List Step) → Along G (BySystem G σ) 0 p → (Satisfied φ G p → ⊥) → (x : ℕ) → x < G .inputs → systemByte G σ (run G 0 p) x < G .outputs
+
+-- "cannot": no play from the start that follows the environment's strategy has a beginning that satisfies the rule, fails the assumption,
+-- or comes to a byte that is no input
+pub record Cannot (fair : Bool) (φ : Formula) (G : Arena) (τ : List ℕ) : Type 0 where
+  pub avoiding : (p : List Step) → Along G (ByEnvironment G τ) 0 p → Satisfied φ G p → ⊥
+  pub keeping : (p : List Step) → Along G (ByEnvironment G τ) 0 p → Failed fair G p → ⊥
+  pub answers : (p : List Step) → Along G (ByEnvironment G τ) 0 p → environmentByte τ (run G 0 p) < G .inputs
+
+-- the buffers are too short for 128 states
+abbrev pub shortBuffers : ℕ → ℕ → List ℕ → List ℕ → List ℕ → List ℕ → Bool
+shortBuffers i o transitions accepting σ τ =
+    shortAutomaton (letterCount i o) transitions accepting || (ltb (length σ) (stateLimit * 2 ^ i) || ltb (length τ) stateLimit)
+
+-- the refusal that comes first, for texts with the readings ρ and κ and a rule with n states
+unfoldable pub ruleRefusal : ℕ → ℕ → List ℕ → List ℕ → List ℕ → List ℕ → List ℕ → List ℕ → Reading → Reading → ℕ → Refusal
+ruleRefusal i o rule condition transitions accepting σ τ ρ κ n =
+    cond (badAlphabet i o) Alphabet
+    (cond (tooLong rule || tooLong condition) TextLength
+    (cond (shortBuffers i o transitions accepting σ τ) Buffer
+    (afterRule ρ
+    (afterCondition κ
+    (cond (ltb stateLimit n) StateCount Nothing)))))
+
+-- the four buffers, in the order transitions, accepting flags, system's table, environment's table
+pub record Buffers : Type 0 where
+  pub transitions : List ℕ
+  pub accepting : List ℕ
+  pub system : List ℕ
+  pub environment : List ℕ
+
+-- a served call: the formulas of the two texts, the automaton, both tables, the verdict and what it promises
+pub record Served (fair : Bool) (i o : ℕ) (rule condition : List ℕ) (old new : Buffers) (n : ℕ) (can : Bool) : Type 0 where
+  pub formula : Formula
+  pub good : IsGood i (ruleKind i o) rule formula
+  pub assumption : Formula
+  pub assumed : IsGood i (conditionKind i) condition assumption
+  pub mask : ℕ
+  pub judges : Judges assumption i mask
+  pub automaton : Automaton formula (letterCount i o) n (new .transitions) (new .accepting)
+  pub transitions-rest : Cleared (n * letterCount i o) (stateLimit * letterCount i o) (old .transitions) (new .transitions)
+  pub accepting-rest : Cleared n stateLimit (old .accepting) (new .accepting)
+  pub tables : Tables fair (arena i o n (new .transitions) (new .accepting) mask) (old .system) (old .environment) (new .system) (new .environment)
+  pub verdict : Verdict fair (arena i o n (new .transitions) (new .accepting) mask) (new .system) (new .environment) 0 can
+  pub can-promise : can ≡ true → Can fair formula (arena i o n (new .transitions) (new .accepting) mask) (new .system)
+  pub cannot-promise : can ≡ false → Cannot fair formula (arena i o n (new .transitions) (new .accepting) mask) (new .environment)
+
+-- the whole promise: the answer and the four buffers on every input
+pub record RuleSolved (fair : Bool) (i o : ℕ) (rule condition : List ℕ) (old new : Buffers) (r : Answer) : Type 0 where
+  pub reading : Reading
+  pub read : ReadingOf i (ruleKind i o) rule reading
+  pub condition-reading : Reading
+  pub condition-read : ReadingOf i (conditionKind i) condition condition-reading
+  pub states : ℕ
+  pub counted : CountOf i o rule states
+  pub refusal : Refusal
+  pub first : refusal ≡ ruleRefusal i o rule condition (old .transitions) (old .accepting) (old .system) (old .environment) reading condition-reading states
+  pub served : refusal ≡ Nothing → (can : Bool) × (r ≡ verdictOf can states) × Served fair i o rule condition old new states can
+  pub refused : (refusal ≡ Nothing → ⊥) → (r ≡ Refused refusal) × (new .system ≡ old .system) × (new .environment ≡ old .environment)
+  pub over : refusal ≡ StateCount → Over i o rule (old .transitions) (old .accepting) (new .transitions) (new .accepting)
+  pub untouched : (refusal ≡ Nothing → ⊥) → (refusal ≡ StateCount → ⊥) → (new .transitions ≡ old .transitions) × (new .accepting ≡ old .accepting)

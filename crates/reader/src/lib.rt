@@ -1,0 +1,4 @@
+// The reader: from a text to the nodes of its formula, or to the place of its first bad byte.
+mod marks;
+pub mod reading;
+pub mod refusal;

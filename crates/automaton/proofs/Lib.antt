@@ -1,3 +1,13 @@
 pub mod BitLaws
 pub mod TableLaws
 pub mod ArrayLaws
+pub mod StepLaws
+pub mod ValuationLaws
+pub mod Meaning
+pub mod SuccessorLaws
+pub mod PositionLaws
+pub mod DiscoveryLaws
+pub mod Reachable
+pub mod ExplorationLaws
+pub mod AutomatonLaws
+pub mod FirstOverLaws

@@ -6,7 +6,9 @@ pub mod Valuation
 pub mod State
 pub mod Discovery
 pub mod Representation
+pub mod Fold
 pub mod Automaton
+pub mod Exploration
 pub mod Construction
 pub mod Condition
 pub mod Trial

@@ -1,6 +1,8 @@
 // The automaton of a rule, the mask of a condition, and the trial of a rule on a list of letters.
+pub mod alphabet;
 mod bits;
 pub mod condition;
 pub mod construct;
 mod coordinates;
+mod explore;
 pub mod trial;

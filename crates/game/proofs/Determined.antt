@@ -14,7 +14,7 @@ use lib.Seq.{length-take-le}
 use Rattle.game.specs.Arena.{Arena, goal, holds, lacks}
 use Rattle.game.specs.Play.{Step, entered, run, reaches, Along, count, Every, InRow}
 use Rattle.game.specs.Strategy.{systemByte, environmentByte, BySystem, ByEnvironment, Assumed, Failed, SystemWins, EnvironmentWins}
-use Rattle.game.proofs.BoolLaws.{on, clash, or-left, or-right, or-cases, not-false-is-true}
+use Rattle.reader.proofs.BoolLaws.{on, clash, or-left, or-right, or-cases, not-false-is-true}
 
 -- ---- stretches of steps
 

@@ -1,3 +1,2 @@
-pub mod BoolLaws
 pub mod IndexLaws
 pub mod Determined

@@ -6,3 +6,7 @@ pub mod Place
 pub mod Reading
 pub mod Nodes
 pub mod Refusal
+pub mod Words
+pub mod Scan
+pub mod Counts
+pub mod Steps

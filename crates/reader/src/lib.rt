@@ -1,4 +1,7 @@
 // The reader: from a text to the nodes of its formula, or to the place of its first bad byte.
+mod levels;
 mod marks;
 pub mod reading;
 pub mod refusal;
+mod scan;
+mod size;

@@ -1,0 +1,30 @@
+-- The state after a letter (specs/State.antt), read off the table of valuations (specs/Representation.antt). Assumes nothing.
+use Prim.Native.Nat.{ℕ, suc, _+_, _*_, _%_, _^_, _≤_, _<_}
+use mathlib.Core.Path.{_≡_, ap, _∙_}
+use mathlib.Core.Bool.{Bool}
+use mathlib.Core.List.{List}
+use native.Mathlib.Nat.{mod-eq-of-lt}
+use native.Mathlib.Omega.{arith}
+use lib.ListN.{getD}
+use Rattle.reader.specs.Formula.{Formula, operators}
+use Rattle.automaton.specs.Bits.{bit, word}
+use Rattle.automaton.specs.Valuation.{present, vectors}
+use Rattle.automaton.specs.State.{after}
+use Rattle.automaton.specs.Representation.{Tabulates}
+use Rattle.automaton.proofs.BitLaws.{word-ext}
+use Rattle.automaton.proofs.ValuationLaws.{present-lt}
+
+-- whether a state holds the valuation that the table has for a letter and v
+abbrev pub held : List ℕ → ℕ → ℕ → ℕ → Bool
+held table a state v = bit state (getD table (a * 64 + v) 0 % 64)
+
+-- those v are the next state, if the table is the formula's
+pub held-after : (φ : Formula) (L : ℕ) (table : List ℕ) (a n state : ℕ) → Tabulates φ L table → a < L → n ≤ 64 → n ≡ 2 ^ suc (operators φ) → word (held table a state) n ≡ after φ state a
+unfolding Tabulates after vectors
+held-after φ L table a n state t h few e =
+    word-ext (held table a state) (λ v. bit state (present φ a v)) n
+    (λ v l.
+    let q : getD table (a * 64 + v) 0 ≡ present φ a v = t a v h (omega arith) in
+    let p : present φ a v < 2 ^ suc (operators φ) = present-lt φ a v in
+    ap (bit state) (mod-eq-of-lt (omega arith) ∙ q))
+    ∙ ap (word (λ v. bit state (present φ a v))) e

@@ -1,0 +1,50 @@
+-- `automaton::explore::position_of` meets its contract. The invariant: none of the states below i is x.
+-- The measure is what is left of n. Assumes nothing.
+use Prim.Native.Nat.{_-_, _≤_}
+use mathlib.Core.Path.{_≡_, sym, _∙_, subst}
+use native.Mathlib.Nat.{not-suc-le-zero}
+use native.Mathlib.Omega.{arith}
+use borrow.Author.Count.{below-more}
+use borrow.Author.Needs.{needs}
+use Rattle.automaton.proofs.PositionLaws.{Absent, position-in-front, position-not-in-front}
+use Rattle.automaton.proofs.explore.position_of.Statement.{statement}
+use Rattle.automaton.proofs.explore.position_of.Tie as tie
+
+abbrev Inv-loop : tie.InvT-loop
+Inv-loop states n x i₀ i = (i ≤ n) × Absent states x i
+
+abbrev μ-loop : tie.MeasureT-loop
+μ-loop states n x i₀ i = n - i
+
+loop-holds : tie.Need-loop-holds Inv-loop μ-loop
+loop-holds c = (omega arith, λ k l e. absurd (not-suc-le-zero l))
+
+mul-if1 : tie.Need-mul-if1 Inv-loop μ-loop
+mul-if1 c = search needs
+
+shared-slice-read-if1 : tie.Need-shared-slice-read-if1 Inv-loop μ-loop
+shared-slice-read-if1 c = search needs
+
+returns : tie.Need-returns Inv-loop μ-loop
+returns c =
+    let s = c .before .before .before .before in
+    let at = c .before .before .before .loop in
+    sym (position-in-front (s .args .states .now) (s .args .n) (s .args .x) (s .pre) (at .i) (omega arith) (c .if1 .taken) (at .inv .1))
+
+add-i : tie.Need-add-i Inv-loop μ-loop
+add-i c = search needs
+
+loop-less : tie.Need-loop-less Inv-loop μ-loop
+loop-less c = search needs
+
+loop-again : tie.Need-loop-again Inv-loop μ-loop
+loop-again c = (omega arith, below-more _ _ (c .before .before .before .loop .inv .1) (c .if1 .left))
+
+returns-2 : tie.Need-returns-2 Inv-loop μ-loop
+returns-2 c =
+    let s = c .before .before in
+    let i=n : c .before .loop .i ≡ s .args .n = omega arith in
+    i=n ∙ sym (position-not-in-front (s .args .states .now) (s .args .n) (s .args .x) (s .pre) (subst (Absent (s .args .states .now) (s .args .x)) i=n (c .before .loop .inv .1)))
+
+pub position-of-spec : {M : Type 1} → statement M
+position-of-spec = tie.close (tie.spec Inv-loop μ-loop loop-holds mul-if1 shared-slice-read-if1 returns add-i loop-less loop-again returns-2)

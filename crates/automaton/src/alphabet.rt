@@ -1,0 +1,49 @@
+// The numbers of an alphabet, and the tests that the calls share.
+ghost use mathlib.Core.Path.{_≡_};
+ghost use mathlib.Core.Bool.{cond};
+ghost use Prim.Native.Nat.{_^_};
+ghost use lib.Dec.{ltb};
+ghost use Rattle.automaton.specs.Alphabet.{badAlphabet, tooLong};
+ghost use Rattle.automaton.specs.Trial.{firstOver};
+
+// Whether i or o is above 4.
+pub fn bad_alphabet(i: usize, o: usize) -> bool
+    ensures { λ r. ⌜ r ≡ badAlphabet i o ⌝ }
+{
+    if 4 < i {
+        return true;
+    }
+    4 < o
+}
+
+// Whether a text is over 255 bytes.
+pub fn too_long(text: &[u8]) -> bool
+    ensures { λ r. ⌜ r ≡ tooLong (now (text .entry)) ⌝ }
+{
+    255 < text.len()
+}
+
+// 2 to the power k, for a k up to 8; 0 for any other.
+pub fn power(k: usize) -> usize
+    ensures { λ r. ⌜ r ≡ cond (ltb k 9) (2 ^ k) 0 ⌝ }
+{
+    if k < 9 {
+        return 1 << k;
+    }
+    0
+}
+
+// The index of the first byte that is `bound` or more, or the number of bytes.
+pub fn first_over(bytes: &[u8], bound: usize) -> usize
+    ensures { λ r. ⌜ r ≡ firstOver bound (now (bytes .entry)) ⌝ }
+{
+    let mut k: usize = 0;
+    while k < bytes.len() {
+        let b = bytes[k] as usize;
+        if bound <= b {
+            return k;
+        }
+        k += 1;
+    }
+    k
+}

@@ -1,0 +1,138 @@
+// The states of a formula's automaton, in the order of their discovery.
+ghost use mathlib.Core.Path.{_≡_};
+ghost use Prim.Native.Nat.{ℕ, suc, _*_, _≤_, _<_, _^_};
+ghost use lib.ListN.{length, getD, take};
+ghost use Rattle.reader.specs.Formula.{Formula, operators};
+ghost use Rattle.automaton.specs.Limits.{stateLimit};
+ghost use Rattle.automaton.specs.Bits.{bit, one};
+ghost use Rattle.automaton.specs.Valuation.{endVector};
+ghost use Rattle.automaton.specs.State.{start, after};
+ghost use Rattle.automaton.specs.Discovery.{position};
+ghost use Rattle.automaton.specs.Representation.{Tabulates};
+ghost use Rattle.automaton.specs.Automaton.{Cleared};
+ghost use Rattle.automaton.specs.Exploration.{Explored, BuiltAutomaton};
+use crate::bits::set_bit;
+use crate::bits::test_bit;
+use crate::coordinates::start_word;
+
+// The number of states that are served.
+const STATE_LIMIT: usize = 128;
+
+// The state after a letter: it holds v where the old one holds the valuation that the table has for the letter and v.
+fn successor(table: &[u8; 16384], letter: usize, vectors: u64, state: u64) -> u64
+    requires { ⌜ (letter < 256) × (vectors ≤ 64) ⌝ }
+    ensures { λ r. ⌜ ((φ : Formula) (L : ℕ) → Tabulates φ L (now (table .entry)) → letter < L → vectors ≡ 2 ^ suc (operators φ) → r ≡ after φ state letter) ⌝ }
+{
+    let row = letter * 64;
+    let mut r: u64 = 0;
+    let mut v: u64 = 0;
+    while v < vectors {
+        let u = table[row + v as usize] % 64;
+        let b = test_bit(state, u as u64);
+        r = set_bit(r, v, b);
+        v += 1;
+    }
+    r
+}
+
+// The first position of x among the first n states, or n where it is not there.
+fn position_of(states: &[u64], n: usize, x: u64) -> usize
+    requires { ⌜ n ≤ length (now states) ⌝ }
+    ensures { λ r. ⌜ r ≡ position x (take n (now (states .entry))) ⌝ }
+{
+    let mut i: usize = 0;
+    while i < n {
+        if states[i] == x {
+            return i;
+        }
+        i += 1;
+    }
+    i
+}
+
+// Sets the first n bytes to 0.
+fn clear(buffer: &mut [u8], n: usize)
+    requires { ⌜ n ≤ length (now buffer) ⌝ }
+    ensures { λ r. ⌜ Cleared 0 n (now (buffer .entry)) (now (buffer .exit)) ⌝ }
+{
+    let mut i: usize = 0;
+    while i < n {
+        buffer[i] = 0;
+        i += 1;
+    }
+}
+
+// Sets the flag of each of the first n states to whether it holds the end valuation.
+fn mark_states(list: &[u64], n: usize, end: u64, accepting: &mut [u8])
+    requires { ⌜ (n ≤ length (now list)) × (n ≤ length (now accepting)) × (end < 64) ⌝ }
+    ensures { λ r. ⌜ ((s : ℕ) → s < n → getD (now (accepting .exit)) s 0 ≡ one (bit (getD (now (list .entry)) s 0) end)) × ((s : ℕ) → n ≤ s → getD (now (accepting .exit)) s 0 ≡ getD (now (accepting .entry)) s 0) ⌝ }
+{
+    let mut s: usize = 0;
+    while s < n {
+        let b = test_bit(list[s], end);
+        accepting[s] = (b % 2) as u8;
+        s += 1;
+    }
+}
+
+// Finds the states in the order of discovery: they go into list, and where they lead into transitions. Returns their number, or 129
+// where there are more than 128.
+fn explore(
+    table: &[u8; 16384],
+    vectors: u64,
+    letters: usize,
+    first: u64,
+    transitions: &mut [u8],
+    list: &mut [u64],
+) -> usize
+    requires { ⌜ (vectors ≤ 64) × (0 < letters) × (letters ≤ 256) × (stateLimit * letters ≤ length (now transitions)) × (stateLimit ≤ length (now list)) ⌝ }
+    ensures explored { λ r. ⌜ ((φ : Formula) → Tabulates φ letters (now (table .entry)) → vectors ≡ 2 ^ suc (operators φ) → first ≡ start φ → Explored φ letters r (now (list .exit)) (now (transitions .exit))) ⌝ }
+    ensures kept { λ r. ⌜ (r ≤ suc stateLimit) × ((u : ℕ) → stateLimit * letters ≤ u → getD (now (transitions .exit)) u 0 ≡ getD (now (transitions .entry)) u 0) × (r ≤ stateLimit → (u : ℕ) → r * letters ≤ u → getD (now (transitions .exit)) u 0 ≡ getD (now (transitions .entry)) u 0) ⌝ }
+{
+    list[0] = first;
+    let mut n: usize = 1;
+    let mut t: usize = 0;
+    while t < n * letters {
+        let x = successor(table, t % letters, vectors, list[t / letters]);
+        let p = position_of(list, n, x);
+        if p == STATE_LIMIT {
+            return STATE_LIMIT + 1;
+        }
+        transitions[t] = p as u8;
+        t += 1;
+        if p == n {
+            list[n] = x;
+            n += 1;
+        }
+    }
+    n
+}
+
+// The automaton of the formula whose valuations the table holds: its transitions and accepting flags, and the number of its states; 129
+// where they are more than 128.
+pub(crate) fn build(
+    table: &[u8; 16384],
+    width: u64,
+    end: u64,
+    letters: usize,
+    transitions: &mut [u8],
+    accepting: &mut [u8],
+) -> usize
+    requires { ⌜ (1 ≤ width) × (width ≤ 6) × (end < 64) × (0 < letters) × (letters ≤ 256) × (stateLimit * letters ≤ length (now transitions)) × (stateLimit ≤ length (now accepting)) ⌝ }
+    ensures built { λ r. ⌜ ((φ : Formula) → Tabulates φ letters (now (table .entry)) → width ≡ suc (operators φ) → end ≡ endVector φ → BuiltAutomaton φ letters r (now (transitions .entry)) (now (accepting .entry)) (now (transitions .exit)) (now (accepting .exit))) ⌝ }
+    ensures bounded { λ r. ⌜ r ≤ suc stateLimit ⌝ }
+{
+    let vectors = 1u64 << width;
+    let first = start_word(vectors);
+    let share = STATE_LIMIT * letters;
+    let mut list = [0u64; STATE_LIMIT];
+    clear(transitions, share);
+    let n = explore(table, vectors, letters, first, transitions, &mut list);
+    if n > STATE_LIMIT {
+        clear(transitions, share);
+        return n;
+    }
+    clear(accepting, STATE_LIMIT);
+    mark_states(&list, n, end, accepting);
+    n
+}

@@ -1,0 +1,14 @@
+-- What the proofs of several functions use.
+mod MarkLaws
+mod TextLaws
+pub mod NodeLaws
+mod SizeLaws
+mod ScanLaws
+mod PlaceLaws
+mod FollowLaws
+mod InfixLaws
+mod PrefixLaws
+mod ReadingLaws
+pub mod Unambiguous
+pub mod BoolLaws
+pub mod RefusalLaws

@@ -1,0 +1,69 @@
+-- Laws of refusals (specs/Refusal.antt): which of them differ, and what a reading that is not good is refused by.
+-- Assumes nothing.
+use Prim.Native.Nat.{ℕ}
+use mathlib.Core.Path.{_≡_, refl, sym, ap, subst}
+use mathlib.Core.Bool.{Bool, true, false}
+use mathlib.Core.List.{[], _∷_}
+use mathlib.Core.Logic.{_⊎_, ⊎-elim}
+use native.Mathlib.Omega.{arith}
+use types.Run.{OneOf}
+use denote.Enum.Declared.{tagOf}
+use Rattle.reader.specs.declared.reading.Reading.{Reading}
+use Rattle.reader.specs.declared.reading.Reading.the-variants.{Good, Bad, TooManyNodes, TooManyOperators}
+use Rattle.reader.specs.declared.refusal.Refusal.{Refusal}
+use Rattle.reader.specs.declared.refusal.Refusal.the-variants.{Nothing, Alphabet, TextLength, Buffer, RuleText, RuleNodes, RuleOperators, ConditionText, ConditionNodes, StateCount, GivenCount, Move, State, Value}
+use Rattle.reader.specs.Refusal.{numberOf, isNothing, afterRule, afterCondition}
+use Rattle.reader.proofs.reading.Reading.{the-type}
+
+-- refusals with different numbers are different
+pub differs : (x y : Refusal) → (numberOf x ≡ numberOf y → ⊥) → x ≡ y → ⊥
+differs x y h e = h (ap numberOf e)
+
+-- a call is refused or served
+pub refused-or-served : (x : Refusal) → (x ≡ Nothing) ⊎ (isNothing x ≡ false)
+refused-or-served Nothing = _⊎_.inl refl
+refused-or-served Alphabet = _⊎_.inr refl
+refused-or-served TextLength = _⊎_.inr refl
+refused-or-served Buffer = _⊎_.inr refl
+refused-or-served (RuleText k) = _⊎_.inr refl
+refused-or-served RuleNodes = _⊎_.inr refl
+refused-or-served RuleOperators = _⊎_.inr refl
+refused-or-served (ConditionText k) = _⊎_.inr refl
+refused-or-served ConditionNodes = _⊎_.inr refl
+refused-or-served StateCount = _⊎_.inr refl
+refused-or-served GivenCount = _⊎_.inr refl
+refused-or-served (Move k) = _⊎_.inr refl
+refused-or-served State = _⊎_.inr refl
+refused-or-served (Value k) = _⊎_.inr refl
+
+-- a refusal is something
+pub something : (x : Refusal) → isNothing x ≡ false → x ≡ Nothing → ⊥
+something x h e = mathlib.Core.Bool.true≢false (subst (λ (y : Refusal). isNothing y ≡ false) e h)
+
+-- a reading that is not good
+abbrev pub NotGood : Reading → Type 0
+NotGood ρ = (n : ℕ) → ρ ≡ Good n → ⊥
+
+-- as the other arm of a `let .. else` on a good reading tells it
+pub not-good : (ρ : Reading) → OneOf (1 ∷ 2 ∷ 3 ∷ []) (tagOf the-type ρ) → NotGood ρ
+not-good ρ h n e =
+    let g : OneOf (1 ∷ 2 ∷ 3 ∷ []) (tagOf the-type (Good n)) = subst (λ (x : Reading). OneOf (1 ∷ 2 ∷ 3 ∷ []) (tagOf the-type x)) e h in
+    ⊎-elim (λ z. omega arith) (⊎-elim (λ z. omega arith) (λ z. omega arith)) g
+
+-- is refused by itself, whatever comes later, and never by 9
+pub record Refuses (after : Reading → Refusal → Refusal) (ρ : Reading) : Type 0 where
+  pub first : (later : Refusal) → after ρ later ≡ after ρ Nothing
+  pub is-refused : isNothing (after ρ Nothing) ≡ false
+  pub not-count : after ρ Nothing ≡ StateCount → ⊥
+
+pub rule-refused : (ρ : Reading) → NotGood ρ → Refuses afterRule ρ
+rule-refused (Good n) h = absurd (h n refl)
+rule-refused (Bad k) h = record { first = λ later. refl; is-refused = refl; not-count = differs (RuleText k) StateCount (λ e. omega arith) }
+rule-refused TooManyNodes h = record { first = λ later. refl; is-refused = refl; not-count = differs RuleNodes StateCount (λ e. omega arith) }
+rule-refused TooManyOperators h = record { first = λ later. refl; is-refused = refl; not-count = differs RuleOperators StateCount (λ e. omega arith) }
+
+pub condition-refused : (ρ : Reading) → NotGood ρ → Refuses afterCondition ρ
+condition-refused (Good n) h = absurd (h n refl)
+condition-refused (Bad k) h = record { first = λ later. refl; is-refused = refl; not-count = differs (ConditionText k) StateCount (λ e. omega arith) }
+condition-refused TooManyNodes h = record { first = λ later. refl; is-refused = refl; not-count = differs ConditionNodes StateCount (λ e. omega arith) }
+condition-refused TooManyOperators h = record { first = λ later. refl; is-refused = refl; not-count = differs ConditionNodes StateCount (λ e. omega arith) }

@@ -1,0 +1,16 @@
+use borrow.Author.Needs.{needs}
+use borrow.Author.Tests.{eq-eqb, ne-eqb}
+use Rattle.reader.specs.Marks.{binaryOf}
+use Rattle.reader.proofs.marks.infix_kind.Statement.{statement}
+use Rattle.reader.proofs.marks.infix_kind.Tie as tie
+
+pub infix-kind-spec : {M : Type 1} → statement M
+unfolding binaryOf
+infix-kind-spec =
+    tie.close
+    (tie.spec
+    (λ c. simp (eq-eqb _ _ (c .if1 .taken)))
+    (λ c. simp (ne-eqb _ _ (c .before .if1 .left), eq-eqb _ _ (c .if2 .taken)))
+    (λ c. simp (ne-eqb _ _ (c .before .before .if1 .left), ne-eqb _ _ (c .before .if2 .left), eq-eqb _ _ (c .if3 .taken)))
+    (λ c. simp (ne-eqb _ _ (c .before .before .before .if1 .left), ne-eqb _ _ (c .before .before .if2 .left), ne-eqb _ _ (c .before .if3 .left), eq-eqb _ _ (c .if4 .taken)))
+    (λ c. simp (ne-eqb _ _ (c .before .before .before .if1 .left), ne-eqb _ _ (c .before .before .if2 .left), ne-eqb _ _ (c .before .if3 .left), ne-eqb _ _ (c .if4 .left))))

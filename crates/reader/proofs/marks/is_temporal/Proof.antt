@@ -1,0 +1,8 @@
+use borrow.Author.Needs.{needs}
+use Rattle.reader.specs.Marks.{isTemporal}
+use Rattle.reader.proofs.marks.is_temporal.Statement.{statement}
+use Rattle.reader.proofs.marks.is_temporal.Tie as tie
+
+pub is-temporal-spec : {M : Type 1} → statement M
+unfolding isTemporal
+is-temporal-spec = tie.close (tie.spec (λ c. search needs) (λ c κs. search needs) (λ c. cc))

@@ -1,0 +1,27 @@
+-- The nodes and the temporal operators of a text, counted by its bytes.
+-- No promise of a call that 01 names rests on this file.
+-- Assumes nothing.
+use Prim.Native.Nat.{ℕ, _+_}
+use mathlib.Core.Bool.{Bool, true, false, cond}
+use mathlib.Core.List.{List, [], _∷_}
+use Rattle.reader.specs.declared.marks.Kind.{Kind}
+use Rattle.reader.specs.declared.marks.Kind.the-variants.{Operand, Prefix, Infix, Open, Close, Other}
+use Rattle.reader.specs.Marks.{kindOf, isTemporal}
+
+-- 1 for a temporal mark, else 0
+unfoldable pub tick : ℕ → ℕ
+tick b = cond (isTemporal b) 1 0
+
+-- what a byte adds to the count of the temporal operators (t true) or of the nodes (t false), by its kind; x is 1 for a temporal mark
+abbrev pub weightOf : Bool → ℕ → Kind → ℕ
+weightOf t x Operand = cond t 0 1
+weightOf t x Prefix = cond t x 1
+weightOf t x (Infix l) = cond t x 1
+weightOf t x Open = 0
+weightOf t x Close = 0
+weightOf t x Other = 0
+
+-- the count of a text
+unfoldable pub countOf : Bool → List ℕ → ℕ
+countOf t [] = 0
+countOf t (b ∷ s) = weightOf t (tick b) (kindOf b) + countOf t s

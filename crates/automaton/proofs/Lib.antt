@@ -11,3 +11,7 @@ pub mod Reachable
 pub mod ExplorationLaws
 pub mod AutomatonLaws
 pub mod FirstOverLaws
+pub mod ReadLaws
+pub mod ConstructionLaws
+pub mod TrialLaws
+pub mod ConditionLaws

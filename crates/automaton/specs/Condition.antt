@@ -12,7 +12,7 @@ use Rattle.reader.specs.declared.refusal.Refusal.the-variants.{Nothing, Alphabe
 use Rattle.reader.specs.Formula.{Formula}
 use Rattle.reader.specs.Marks.{conditionKind}
 use Rattle.reader.specs.Reading.{ReadingOf, IsGood}
-use Rattle.reader.specs.Refusal.{isNothing, afterCondition}
+use Rattle.reader.specs.Refusal.{afterCondition}
 use Rattle.automaton.specs.declared.condition.Assumption.{Assumption}
 use Rattle.automaton.specs.declared.condition.Assumption.the-variants.{Mask, Refused}
 use Rattle.automaton.specs.Alphabet.{badAlphabet, tooLong}
@@ -33,6 +33,13 @@ Judges κ i mask = (x : ℕ) → x < 2 ^ i → (bit mask x ≡ true) ↔ Satisfi
 unfoldable pub conditionRefusal : ℕ → List ℕ → Reading → Refusal
 conditionRefusal i text ρ = cond (badAlphabet i 0) Alphabet (cond (tooLong text) TextLength (afterCondition ρ Nothing))
 
+-- the answer of a served call
+pub record Masked (i : ℕ) (text : List ℕ) (r : Assumption) : Type 0 where
+  pub formula : Formula
+  pub good : IsGood i (conditionKind i) text formula
+  pub answer : r ≡ Mask (maskOf formula i)
+  pub judges : Judges formula i (maskOf formula i)
+
 -- the whole promise
 pub record Conditioned (i : ℕ) (text : List ℕ) (r : Assumption) : Type 0 where
   pub reading : Reading
@@ -40,4 +47,4 @@ pub record Conditioned (i : ℕ) (text : List ℕ) (r : Assumption) : Type 0 whe
   pub refusal : Refusal
   pub first : refusal ≡ conditionRefusal i text reading
   pub refused : (refusal ≡ Nothing → ⊥) → r ≡ Refused refusal
-  pub served : refusal ≡ Nothing → (κ : Formula) × IsGood i (conditionKind i) text κ × (r ≡ Mask (maskOf κ i)) × Judges κ i (maskOf κ i)
+  pub served : refusal ≡ Nothing → Masked i text r

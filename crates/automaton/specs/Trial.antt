@@ -14,7 +14,7 @@ use Rattle.reader.specs.declared.refusal.Refusal.the-variants.{Nothing, Alphabe
 use Rattle.reader.specs.Formula.{Formula}
 use Rattle.reader.specs.Marks.{ruleKind}
 use Rattle.reader.specs.Reading.{ReadingOf, IsGood}
-use Rattle.reader.specs.Refusal.{isNothing, afterRule}
+use Rattle.reader.specs.Refusal.{numberOf, placeOf, afterRule}
 use Rattle.automaton.specs.declared.trial.Trial.{Trial}
 use Rattle.automaton.specs.declared.trial.Trial.the-variants.{Satisfied, Violated, Refused}
 use Rattle.automaton.specs.Alphabet.{badAlphabet, tooLong, letterCount}
@@ -38,11 +38,32 @@ trialRefusal i o text letters ρ =
     (afterRule ρ
     (afterList (letterCount i o) letters Value Nothing)))
 
--- the whole promise
+-- 01's number and place of every answer: none where the call is served
+abbrev pub trialNumber : Trial → ℕ
+trialNumber Satisfied = 0
+trialNumber Violated = 0
+trialNumber (Refused x) = numberOf x
+
+abbrev pub trialPlace : Trial → ℕ
+trialPlace Satisfied = 0
+trialPlace Violated = 0
+trialPlace (Refused x) = placeOf x
+
+-- the answer of a served call
+pub record Judged (i o : ℕ) (text letters : List ℕ) (r : Trial) : Type 0 where
+  pub formula : Formula
+  pub good : IsGood i (ruleKind i o) text formula
+  pub satisfied : Bool
+  pub answer : r ≡ cond satisfied Satisfied Violated
+  pub right : (satisfied ≡ true) ↔ Satisfies formula letters
+
+-- the whole promise: number and place, and where the call is served whether the list satisfies the rule
 pub record Tried (i o : ℕ) (text letters : List ℕ) (r : Trial) : Type 0 where
   pub reading : Reading
   pub read : ReadingOf i (ruleKind i o) text reading
   pub refusal : Refusal
   pub first : refusal ≡ trialRefusal i o text letters reading
+  pub number : trialNumber r ≡ numberOf refusal
+  pub place : trialPlace r ≡ placeOf refusal
   pub refused : (refusal ≡ Nothing → ⊥) → r ≡ Refused refusal
-  pub served : refusal ≡ Nothing → (φ : Formula) × (satisfied : Bool) × IsGood i (ruleKind i o) text φ × (r ≡ cond satisfied Satisfied Violated) × ((satisfied ≡ true) ↔ Satisfies φ letters)
+  pub served : refusal ≡ Nothing → Judged i o text letters r

@@ -1,2 +1,11 @@
 pub mod IndexLaws
 pub mod Determined
+pub mod CaseLaws
+pub mod LimitLaws
+pub mod CountLaws
+pub mod ForcingLaws
+pub mod ServingLaws
+pub mod AttractionLaws
+pub mod PassLaws
+pub mod PromotionLaws
+pub mod RoundLaws

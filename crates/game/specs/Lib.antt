@@ -6,3 +6,4 @@ pub mod Tables
 pub mod Given
 pub mod Follower
 pub mod Rule
+pub mod Solver

@@ -12,3 +12,4 @@ mod ReadingLaws
 pub mod Unambiguous
 pub mod BoolLaws
 pub mod RefusalLaws
+pub mod StaticLaws

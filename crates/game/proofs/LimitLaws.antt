@@ -1,0 +1,52 @@
+-- Laws of the ranks below a limit.
+-- Assumes nothing.
+use mathlib.Core.Path.{_≡_, refl}
+use mathlib.Core.Bool.{true, false, not}
+use mathlib.Core.List.{List}
+use Prim.Native.Nat.{ℕ, zero, suc, _<_, _≤_}
+use native.Mathlib.Omega.{arith}
+use lib.Dec.{eqb, ltb}
+use lib.ListN.{getD, replicate}
+use borrow.Author.Tests.{eq-eqb, ne-eqb, ltb-true, lt-ltb}
+use Rattle.game.specs.Solver.{rankedBelow}
+use Rattle.reader.proofs.BoolLaws.{on, clash, not-true→, and-true, nonzero}
+use Rattle.game.proofs.CaseLaws.{zero-or}
+
+-- no state has a rank in a list of zeros
+pub zeros : (n t : ℕ) → getD (replicate {A = ℕ} n 0) t 0 ≡ 0
+zeros zero t = refl
+zeros (suc n) zero = refl
+zeros (suc n) (suc t) = zeros n t
+
+module _ (limit : ℕ) (r : List ℕ) (t : ℕ) where
+  pub ranked-below : rankedBelow limit r t ≡ true → (0 < getD r t 0) × (getD r t 0 < limit)
+  unfolding rankedBelow
+  ranked-below e =
+      let p = and-true (not (eqb (getD r t 0) 0)) (ltb (getD r t 0) limit) e in
+      (nonzero (getD r t 0) (not-true→ (eqb (getD r t 0) 0) (p .0)), ltb-true (getD r t 0) limit (p .1))
+
+  pub below-ranked : 0 < getD r t 0 → getD r t 0 < limit → rankedBelow limit r t ≡ true
+  unfolding rankedBelow
+  below-ranked p l = rw (ne-eqb (getD r t 0) 0 (λ z. let q : ⊥ = omega arith in q), lt-ltb (getD r t 0) limit l)
+
+  -- a rank is below the limit if its number is
+  pub some-below : (getD r t 0 ≡ 0 → ⊥) → rankedBelow limit r t ≡ ltb (getD r t 0) limit
+  unfolding rankedBelow
+  some-below h = rw (ne-eqb (getD r t 0) 0 h)
+
+  -- where there is no rank, none is below the limit
+  pub none-below : getD r t 0 ≡ 0 → rankedBelow limit r t ≡ false
+  unfolding rankedBelow
+  none-below e = rw (eq-eqb (getD r t 0) 0 e)
+
+  pub not-below : limit ≤ getD r t 0 → rankedBelow limit r t ≡ false
+  not-below h =
+      on (rankedBelow limit r t) (λ e. let p = ranked-below e in absurd (let z : ⊥ = omega arith in z)) (λ e. e)
+
+  -- where none is below a limit that is above all ranks, there is no rank
+  pub below-none : rankedBelow limit r t ≡ false → getD r t 0 < limit → getD r t 0 ≡ 0
+  below-none e l = zero-or (getD r t 0) (λ z. z) (λ p. clash (rankedBelow limit r t) (below-ranked p l) e)
+
+pub same-below : (limit : ℕ) (a b : List ℕ) (t : ℕ) → getD a t 0 ≡ getD b t 0 → rankedBelow limit a t ≡ rankedBelow limit b t
+unfolding rankedBelow
+same-below limit a b t e = rw e

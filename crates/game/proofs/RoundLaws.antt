@@ -1,0 +1,141 @@
+-- Laws of the rounds that give outer ranks: before the first, one more round, and after the last.
+-- Assumes nothing.
+use mathlib.Core.Path.{_≡_, sym, subst}
+use mathlib.Core.Bool.{Bool, true, false, not}
+use mathlib.Core.List.{List}
+use mathlib.Core.Logic.{_⊎_, ⊎-elim}
+use Prim.Native.Nat.{ℕ, _+_, _<_, _≤_}
+use native.Mathlib.Omega.{arith}
+use lib.ListN.{getD}
+use Rattle.game.specs.Arena.{Arena}
+use Rattle.game.specs.Rank.{Valid, Forces, Falls, Ranked, Ranking}
+use Rattle.game.specs.Solver.{everyRank, rankedBelow, Unranked, Favorable, Grows, Attraction, Promoted}
+use Rattle.game.proofs.CaseLaws.{zero-or, below-or}
+use Rattle.game.proofs.LimitLaws.{ranked-below, below-none}
+use Rattle.game.proofs.ForcingLaws.{forces-map}
+
+-- the outer ranks of the rounds so far, all below the limit
+pub record OuterRanks (fair : Bool) (G : Arena) (outer : List ℕ) (limit : ℕ) : Type 0 where
+  pub within : (t : ℕ) → 0 < getD outer t 0 → t < G .states
+  pub below : (t : ℕ) → getD outer t 0 < limit
+  pub forced : (s : ℕ) → 0 < getD outer s 0 → Forces G fair s (Falls G fair true outer s)
+
+-- both players' ranks after the last round
+pub record Certified (fair : Bool) (G : Arena) (outer inner : List ℕ) : Type 0 where
+  pub outer-ranked : Ranked G fair true outer
+  pub inner-ranked : Ranked G (not fair) false inner
+  pub each : (s : ℕ) → s < G .states → ((0 < getD outer s 0) × (getD inner s 0 ≡ 0)) ⊎ ((getD outer s 0 ≡ 0) × (0 < getD inner s 0))
+
+-- the outer ranks are the system's when fair
+pub ranking-fair : {fair : Bool} {G : Arena} {outer inner : List ℕ} → fair ≡ true → Certified fair G outer inner → Ranking fair G outer inner
+ranking-fair {fair = true} e h = record { of-system = h .outer-ranked; of-environment = h .inner-ranked; each = h .each }
+ranking-fair {fair = false} e h = absurd (mathlib.Core.Bool.false≢true e)
+
+-- and the environment's when stable
+pub ranking-stable : {fair : Bool} {G : Arena} {outer inner : List ℕ} → fair ≡ false → Certified fair G outer inner → Ranking fair G inner outer
+ranking-stable {fair = true} e h = absurd (mathlib.Core.Bool.true≢false e)
+ranking-stable {fair = false} e h =
+    record {
+      of-system = h .inner-ranked;
+      of-environment = h .outer-ranked;
+      each = λ s l. ⊎-elim (λ w. _⊎_.inr (w .1, w .0)) (λ w. _⊎_.inl (w .1, w .0)) (h .each s l);
+    }
+
+-- before the first round
+pub no-rounds : {fair : Bool} {G : Arena} (outer : List ℕ) → ((t : ℕ) → getD outer t 0 ≡ 0) → OuterRanks fair G outer 1
+no-rounds outer z =
+    record {
+      within = λ t p. let e = z t in absurd (let q : ⊥ = omega arith in q);
+      below = λ t. let e = z t in omega arith;
+      forced = λ s p. let e = z s in absurd (let q : ⊥ = omega arith in q);
+    }
+
+module _ {fair : Bool} {G : Arena} (v : Valid G) {outer inner : List ℕ} {r : ℕ} (so-far : OuterRanks fair G outer r) (at : Attraction fair G outer inner) where
+  -- one more round
+  module _ {new : List ℕ} {gave : Bool} (pro : Promoted (G .states) r outer inner new gave) where
+    new-below : (t : ℕ) → getD new t 0 < r + 1
+    new-below t =
+        zero-or (getD outer t 0)
+        (λ e. zero-or (getD inner t 0)
+        (λ f. below-or t (G .states)
+        (λ l. omega (arith, pro .added t l (e, f)))
+        (λ l. omega (arith, pro .beyond t l, so-far .below t)))
+        (λ p. omega (arith, pro .other t p, so-far .below t)))
+        (λ p. omega (arith, pro .extends t p, so-far .below t))
+
+    new-positive : (t : ℕ) → t < G .states → getD inner t 0 ≡ 0 → 0 < getD new t 0
+    new-positive t l f =
+        zero-or (getD outer t 0)
+        (λ e. omega (arith, pro .added t l (e, f), so-far .below t))
+        (λ p. omega (arith, pro .extends t p))
+
+    new-within : (t : ℕ) → 0 < getD new t 0 → t < G .states
+    new-within t p = below-or t (G .states) (λ l. l) (λ l. so-far .within t (let q = pro .beyond t l in omega arith))
+
+    -- the certificate of a state with the rank r
+    new-forced : (u : ℕ) → u < G .states → Unranked outer inner u → Forces G fair u (Falls G fair true new u)
+    new-forced u l un =
+        let is = pro .added u l un in
+        let no-inner : (t : ℕ) → rankedBelow everyRank inner t ≡ false → getD inner t 0 ≡ 0 = λ t e.
+        below-none everyRank inner t e (omega (arith, at .ranks .below t, v .moving .states-fit)) in
+        forces-map v fair u (Favorable G fair (rankedBelow everyRank outer) (rankedBelow everyRank inner)) (Falls G fair true new u) l
+        (λ x t tl d. (
+          new-positive t tl (no-inner t (d .0)),
+          (λ h. let z = ranked-below everyRank outer t (d .1 h) .0 in omega (arith, pro .extends t z, so-far .below t)),
+          (λ h. omega (arith, new-below t)),
+        ))
+        (at .keeps u l un)
+
+    -- the certificate of a state with an earlier rank
+    old-forced : (u : ℕ) → 0 < getD outer u 0 → Forces G fair u (Falls G fair true new u)
+    old-forced u w =
+        let is = pro .extends u w in
+        forces-map v fair u (Falls G fair true outer u) (Falls G fair true new u) (so-far .within u w)
+        (λ x t tl d. let o = pro .extends t (d .0) in (omega (arith, d .0), (λ h. omega (arith, d .1 h)), (λ h. omega (arith, d .2 h))))
+        (so-far .forced u w)
+
+    pub round-more : OuterRanks fair G new (r + 1)
+    round-more =
+        record {
+          within = new-within;
+          below = new-below;
+          forced = λ u p.
+              zero-or (getD outer u 0)
+              (λ e. new-forced u (new-within u p) (e, zero-or (getD inner u 0) (λ f. f) (λ w. omega (arith, pro .other u w))))
+              (old-forced u);
+        }
+
+    pub round-grows : gave ≡ true → Grows (G .states) outer new
+    round-grows e =
+        let w = pro .more e in
+        (w .0, w .1, w .2 .0, new-positive (w .0) (w .1) (w .2 .1))
+
+  -- after a round that gave no rank: each state has one of the two
+  module _ (le : r ≤ G .states + 1) (total : (s : ℕ) → s < G .states → getD outer s 0 ≡ 0 → 0 < getD inner s 0) where
+    inner-ranked : Ranked G (not fair) false inner
+    inner-ranked =
+        record {
+          within = at .ranks .within;
+          bound = λ t. omega (arith, at .ranks .below t);
+          forced = λ u p.
+              forces-map v (not fair) u (Favorable G (not fair) (rankedBelow (getD inner u 0) inner) (rankedBelow everyRank outer)) (Falls G (not fair) false inner u) (at .ranks .within u p)
+              (λ x t tl d. (
+                total t tl (below-none everyRank outer t (d .0) (omega (arith, so-far .below t, v .moving .states-fit))),
+                (λ h. ranked-below (getD inner u 0) inner t (d .1 h) .1),
+                (λ h. absurd (mathlib.Core.Bool.false≢true h)),
+              ))
+              (at .ranks .forced u p);
+        }
+
+    certified : Certified fair G outer inner
+    certified =
+        record {
+          outer-ranked = record { within = so-far .within; bound = λ t. omega (arith, so-far .below t); forced = so-far .forced };
+          inner-ranked = inner-ranked;
+          each = λ s l. zero-or (getD outer s 0) (λ e. _⊎_.inr (e, total s l e)) (λ p. _⊎_.inl (p, at .ranks .apart s p));
+        }
+
+  pub rounds-end : {new : List ℕ} {gave : Bool} → Promoted (G .states) r outer inner new gave → gave ≡ false → r ≤ G .states + 1 → Certified fair G new inner
+  rounds-end pro e le =
+      let z = pro .none e in
+      subst (λ (l : List ℕ). Certified fair G l inner) (sym (z .0)) (certified le (z .1))

@@ -1,0 +1,242 @@
+// The solver: rounds that give outer ranks, in each of them passes that give inner ranks.
+use crate::arena::Game;
+use crate::arena::enters;
+use crate::arena::has_condition;
+ghost use mathlib.Core.Path.{_≡_};
+ghost use mathlib.Core.Bool.{true, false};
+ghost use Prim.Native.Nat.{_<_, _≤_};
+ghost use lib.ListN.{length};
+ghost use Rattle.game.specs.Rank.{arenaOf, Valid, Ranking};
+ghost use Rattle.game.specs.Solver.{
+  rankedBelow,
+  serving,
+  FirstUnserved,
+  Unranked,
+  Apart,
+  Attracted,
+  InnerRanks,
+  Passed,
+  Attraction,
+  Promoted,
+};
+
+// A limit above every rank.
+const EVERY_RANK: u8 = 255;
+
+// The ranks of both players, 0 for none.
+pub struct Ranks {
+    pub system: [u8; 128],
+    pub environment: [u8; 128],
+}
+
+// The limits below which a rank counts: for a state that is won, and for one that is lost.
+struct Limits {
+    won: u8,
+    lost: u8,
+}
+
+// Whether state t has a rank below the limit.
+fn ranked_below(limit: u8, r: &[u8; 128], t: usize) -> bool
+    requires { ⌜ t < 128 ⌝ }
+    ensures { λ b. ⌜ b ≡ rankedBelow limit (now (r .entry)) t ⌝ }
+{
+    let rank = r[t];
+    if rank == 0 {
+        return false;
+    }
+    rank < limit
+}
+
+// Whether output y serves input x on state s: it enters a goal, or a state that is not lost and, where x has the condition, won.
+fn serves(
+    g: Game,
+    transitions: &[u8],
+    accepting: &[u8],
+    won: &[u8; 128],
+    lost: &[u8; 128],
+    limits: Limits,
+    s: usize,
+    x: usize,
+    y: usize,
+) -> bool
+    requires { ⌜ Valid (arenaOf g (now transitions) (now accepting)) ⌝ }
+    requires { ⌜ (s < g .states) × (x < g .inputs) × (y < g .outputs) ⌝ }
+    ensures { λ r. ⌜ r ≡ serving (arenaOf g (now (transitions .entry)) (now (accepting .entry))) (rankedBelow (limits .won) (now (won .entry))) (rankedBelow (limits .lost) (now (lost .entry))) s x y ⌝ }
+{
+    let t = enters(g, transitions, s, x, y);
+    if accepting[t] != 0 {
+        return true;
+    }
+    if ranked_below(limits.lost, lost, t) {
+        return false;
+    }
+    if ranked_below(limits.won, won, t) {
+        return true;
+    }
+    !has_condition(g.mask, x)
+}
+
+// The first input of state s that no output serves, or the number of inputs.
+fn unserved(
+    g: Game,
+    transitions: &[u8],
+    accepting: &[u8],
+    won: &[u8; 128],
+    lost: &[u8; 128],
+    limits: Limits,
+    s: usize,
+) -> usize
+    requires { ⌜ Valid (arenaOf g (now transitions) (now accepting)) ⌝ }
+    requires { ⌜ s < g .states ⌝ }
+    ensures { λ r. ⌜ FirstUnserved (arenaOf g (now (transitions .entry)) (now (accepting .entry))) (rankedBelow (limits .won) (now (won .entry))) (rankedBelow (limits .lost) (now (lost .entry))) s r ⌝ }
+{
+    let inputs = g.inputs;
+    let outputs = g.outputs;
+    let mut x: usize = 0;
+    'inputs: while x < inputs {
+        let mut y: usize = 0;
+        loop {
+            if y == outputs {
+                break 'inputs;
+            }
+            if serves(g, transitions, accepting, won, lost, limits, s, x, y) {
+                break;
+            }
+            y += 1;
+        }
+        x += 1;
+    }
+    x
+}
+
+// Whether state s has neither an outer nor an inner rank.
+fn unranked(outer: &[u8; 128], inner: &[u8; 128], s: usize) -> bool
+    requires { ⌜ s < 128 ⌝ }
+    ensures { λ r. ⌜ (r ≡ true → Unranked (now (outer .entry)) (now (inner .entry)) s) ⌝ }
+    ensures { λ r. ⌜ (r ≡ false → Unranked (now (outer .entry)) (now (inner .entry)) s → ⊥) ⌝ }
+{
+    if outer[s] != 0 {
+        return false;
+    }
+    inner[s] == 0
+}
+
+// Whether pass p gives state s an inner rank: it has none, and one step leads to earlier passes, whatever the other player does.
+fn attracted(
+    g: Game,
+    transitions: &[u8],
+    accepting: &[u8],
+    outer: &[u8; 128],
+    inner: &[u8; 128],
+    p: u8,
+    s: usize,
+) -> bool
+    requires { ⌜ Valid (arenaOf g (now transitions) (now accepting)) ⌝ }
+    requires { ⌜ s < g .states ⌝ }
+    requires { ⌜ Apart (now outer) (now inner) ⌝ }
+    ensures { λ r. ⌜ Attracted (g .fair) (arenaOf g (now (transitions .entry)) (now (accepting .entry))) (now (outer .entry)) (now (inner .entry)) p s r ⌝ }
+{
+    if !unranked(outer, inner, s) {
+        return false;
+    }
+    let inputs = g.inputs;
+    if g.fair {
+        let limits = Limits {
+            won: EVERY_RANK,
+            lost: p,
+        };
+        let x = unserved(g, transitions, accepting, outer, inner, limits, s);
+        x < inputs
+    } else {
+        let limits = Limits {
+            won: p,
+            lost: EVERY_RANK,
+        };
+        let x = unserved(g, transitions, accepting, inner, outer, limits, s);
+        inputs <= x
+    }
+}
+
+// Gives the inner rank p to each state that is attracted, and says whether there was one.
+fn pass(
+    g: Game,
+    transitions: &[u8],
+    accepting: &[u8],
+    outer: &[u8; 128],
+    inner: &mut [u8; 128],
+    p: u8,
+) -> bool
+    requires { ⌜ Valid (arenaOf g (now transitions) (now accepting)) ⌝ }
+    requires { ⌜ InnerRanks (g .fair) (arenaOf g (now transitions) (now accepting)) (now outer) (now inner) p ⌝ }
+    requires { ⌜ length (now inner) ≡ 128 ⌝ }
+    ensures { λ r. ⌜ Passed (g .fair) (arenaOf g (now (transitions .entry)) (now (accepting .entry))) (now (outer .entry)) (now (inner .entry)) (now (inner .exit)) p (g .states) r ⌝ }
+    ensures { λ r. ⌜ length (now (inner .exit)) ≡ 128 ⌝ }
+{
+    let states = g.states;
+    let mut gave = false;
+    let mut s: usize = 0;
+    while s < states {
+        if attracted(g, transitions, accepting, outer, inner, p, s) {
+            inner[s] = p;
+            gave = true;
+        }
+        s += 1;
+    }
+    gave
+}
+
+// The inner ranks against these outer ranks: passes until one gives none.
+fn inner_ranks(g: Game, transitions: &[u8], accepting: &[u8], outer: &[u8; 128]) -> [u8; 128]
+    requires { ⌜ Valid (arenaOf g (now transitions) (now accepting)) ⌝ }
+    ensures { λ r. ⌜ Attraction (g .fair) (arenaOf g (now (transitions .entry)) (now (accepting .entry))) (now (outer .entry)) r ⌝ }
+{
+    let mut inner: [u8; 128] = [0; 128];
+    let mut p: u8 = 1;
+    while pass(g, transitions, accepting, outer, &mut inner, p) {
+        p += 1;
+    }
+    inner
+}
+
+// Gives the outer rank r to each state below n that has no rank, and says whether there was one.
+fn promote(outer: &mut [u8; 128], inner: &[u8; 128], n: usize, r: u8) -> bool
+    requires { ⌜ (n ≤ 128) × (length (now outer) ≡ 128) ⌝ }
+    ensures { λ b. ⌜ Promoted n r (now (outer .entry)) (now (inner .entry)) (now (outer .exit)) b ⌝ }
+    ensures { λ b. ⌜ length (now (outer .exit)) ≡ 128 ⌝ }
+{
+    let mut gave = false;
+    let mut s: usize = 0;
+    while s < n {
+        if unranked(outer, inner, s) {
+            outer[s] = r;
+            gave = true;
+        }
+        s += 1;
+    }
+    gave
+}
+
+// The ranks of both players: rounds until one gives no outer rank.
+pub(crate) fn solve(g: Game, transitions: &[u8], accepting: &[u8]) -> Ranks
+    requires { ⌜ Valid (arenaOf g (now transitions) (now accepting)) ⌝ }
+    ensures { λ r. ⌜ Ranking (g .fair) (arenaOf g (now (transitions .entry)) (now (accepting .entry))) (r .system) (r .environment) ⌝ }
+{
+    let states = g.states;
+    let mut outer: [u8; 128] = [0; 128];
+    let mut r: u8 = 1;
+    let mut inner: [u8; 128] = inner_ranks(g, transitions, accepting, &outer);
+    while promote(&mut outer, &inner, states, r) {
+        r += 1;
+        inner = inner_ranks(g, transitions, accepting, &outer);
+    }
+    if g.fair {
+        return Ranks {
+            system: outer,
+            environment: inner,
+        };
+    }
+    Ranks {
+        system: inner,
+        environment: outer,
+    }
+}

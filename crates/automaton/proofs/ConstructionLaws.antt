@@ -6,7 +6,8 @@ use mathlib.Core.Bool.{Bool, true, false, cond}
 use mathlib.Core.List.{List}
 use native.Mathlib.Omega.{arith}
 use lib.Dec.{ltb}
-use borrow.Author.Tests.{lt-ltb, le-ltb}
+use lib.ListN.{length}
+use borrow.Author.Tests.{lt-ltb, le-ltb, ltb-false}
 use Rattle.reader.specs.declared.reading.Reading.{Reading}
 use Rattle.reader.specs.declared.reading.Reading.the-variants.{Good}
 use Rattle.reader.specs.declared.refusal.Refusal.{Refusal}
@@ -15,6 +16,7 @@ use Rattle.reader.specs.Formula.{Formula, size}
 use Rattle.reader.specs.Marks.{ruleKind}
 use Rattle.reader.specs.Reading.{ReadingOf, IsGood}
 use Rattle.reader.specs.Refusal.{isNothing, afterRule}
+use Rattle.reader.proofs.BoolLaws.{or-left, or-right}
 use Rattle.reader.proofs.RefusalLaws.{differs, something, NotGood, rule-refused}
 use Rattle.reader.proofs.Unambiguous.{one-formula, some-reading}
 use Rattle.automaton.specs.declared.construct.Construction.{Construction}
@@ -29,6 +31,13 @@ use Rattle.automaton.proofs.ReadLaws.{count-of}
 -- the text of a formula counts its states
 pub counts : (i o : ℕ) (text : List ℕ) (φ : Formula) → IsGood i (ruleKind i o) text φ → (n : ℕ) → n ≡ stateCount φ (letterCount i o) → CountOf i o text n
 counts i o text φ g n e ψ h = e ∙ ap (λ (χ : Formula). stateCount χ (letterCount i o)) (one-formula i o true text (g .reads) (h .reads))
+
+-- buffers that are not too short
+pub long-enough : (L : ℕ) (t a : List ℕ) → shortAutomaton L t a ≡ false → (stateLimit * L ≤ length t) × (stateLimit ≤ length a)
+long-enough L t a e =
+    let x = ltb (length t) (stateLimit * L) in
+    let y = ltb (length a) stateLimit in
+    (ltb-false (length t) (stateLimit * L) (or-left x y e), ltb-false (length a) stateLimit (or-right x y e))
 
 module _ (i o : ℕ) (text t a : List ℕ) where
   -- refused with the buffers as they were

@@ -15,3 +15,9 @@ pub mod ReadLaws
 pub mod ConstructionLaws
 pub mod TrialLaws
 pub mod ConditionLaws
+pub mod NodeLaws
+pub mod EvaluationLaws
+pub mod OperatorLaws
+pub mod CoordinateLaws
+pub mod LoopLaws
+pub mod AlphabetLaws

@@ -6,6 +6,7 @@ pub mod Valuation
 pub mod State
 pub mod Discovery
 pub mod Representation
+pub mod Nodes
 pub mod Fold
 pub mod Automaton
 pub mod Exploration

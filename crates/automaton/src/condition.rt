@@ -1,8 +1,34 @@
-// The mask of a condition.
+// The condition call: the mask of a condition.
+ghost use Rattle.automaton.specs.Condition.{Conditioned};
+use reader::reading::Reading;
+use reader::reading::read;
 use reader::refusal::Refusal;
+use reader::refusal::condition_refusal;
+use crate::alphabet::bad_alphabet;
+use crate::alphabet::power;
+use crate::alphabet::too_long;
+use crate::mask::condition_mask;
 
 // The answer: the mask, bit x for input number x, or a refusal.
 pub enum Assumption {
     Mask(u16),
     Refused(Refusal),
+}
+
+// Reads a condition and judges every input number by it, or refuses.
+pub fn read_condition(i: usize, text: &[u8]) -> Assumption
+    ensures { λ r. ⌜ Conditioned i (now (text .entry)) r ⌝ }
+{
+    if bad_alphabet(i, 0) {
+        return Assumption::Refused(Refusal::Alphabet);
+    }
+    if too_long(text) {
+        return Assumption::Refused(Refusal::TextLength);
+    }
+    let mut nodes = [0usize; 64];
+    let reading = read(text, i as u8, 0, false, &mut nodes);
+    let Reading::Good(count) = reading else {
+        return Assumption::Refused(condition_refusal(reading));
+    };
+    Assumption::Mask(condition_mask(&nodes, count, power(i)))
 }

@@ -1,9 +1,45 @@
-// The trial of a rule on a list of letters.
+// The trial call: whether a list of letters satisfies a rule.
+ghost use Rattle.automaton.specs.Trial.{Tried};
+use reader::reading::Reading;
+use reader::reading::read;
 use reader::refusal::Refusal;
+use reader::refusal::rule_refusal;
+use crate::alphabet::bad_alphabet;
+use crate::alphabet::first_over;
+use crate::alphabet::power;
+use crate::alphabet::too_long;
+use crate::fold::satisfied;
+use crate::operators::operator_count;
 
 // The answer: whether the list satisfies the rule, or a refusal.
 pub enum Trial {
     Satisfied,
     Violated,
     Refused(Refusal),
+}
+
+// Tries a rule on a list of letters, one a byte, or refuses.
+pub fn try_rule(i: usize, o: usize, text: &[u8], letters: &[u8]) -> Trial
+    ensures { λ r. ⌜ Tried i o (now (text .entry)) (now (letters .entry)) r ⌝ }
+{
+    if bad_alphabet(i, o) {
+        return Trial::Refused(Refusal::Alphabet);
+    }
+    if too_long(text) {
+        return Trial::Refused(Refusal::TextLength);
+    }
+    let mut nodes = [0usize; 64];
+    let reading = read(text, i as u8, o as u8, true, &mut nodes);
+    let Reading::Good(count) = reading else {
+        return Trial::Refused(rule_refusal(reading));
+    };
+    let k = first_over(letters, power(i + o));
+    if k < letters.len() {
+        return Trial::Refused(Refusal::Value(k));
+    }
+    let width = operator_count(&nodes, count) + 1;
+    if satisfied(&nodes, count, width, letters) {
+        return Trial::Satisfied;
+    }
+    Trial::Violated
 }

@@ -1,0 +1,126 @@
+-- `automaton::condition::read_condition` meets its contract: each return is the case of the promise that the tests before it decided.
+-- Assumes nothing.
+use borrow.Author.Needs.{needs}
+use mathlib.Core.Path.{_≡_, refl, sym, ap, _∙_}
+use mathlib.Core.Bool.{Bool, true, false}
+use mathlib.Core.List.{List}
+use Prim.Native.Nat.{ℕ, _^_, _≤_}
+use native.Mathlib.Omega.{arith}
+use lib.Pow.{pow-mono}
+use denote.Ref.{now}
+use Rattle.reader.proofs.RefusalLaws.{not-good}
+use Rattle.reader.proofs.StaticLaws.{static}
+use Rattle.automaton.specs.Alphabet.{badAlphabet, tooLong}
+use Rattle.automaton.specs.Bits.{word}
+use Rattle.automaton.specs.Valuation.{value}
+use Rattle.automaton.specs.Condition.{maskOf}
+use Rattle.automaton.proofs.AlphabetLaws.{inputs-fit, power-is}
+use Rattle.automaton.proofs.ReadLaws.{Represented, read-represents}
+use Rattle.automaton.proofs.ConditionLaws.{by-alphabet, by-length, by-reading, by-mask}
+use Rattle.automaton.proofs.condition.read_condition.Statement.{statement}
+use Rattle.automaton.proofs.condition.read_condition.Tie as tie
+
+-- the two tests were passed
+fits : (c : tie.Else2) → badAlphabet (c .before .before .before .before .before .args .i) 0 ≡ false
+fits c = sym (c .before .before .before .bad-alphabet .ensures) ∙ c .before .before .if1 .left
+
+short : (c : tie.Else2) → tooLong (now (c .before .before .before .before .before .args .text)) ≡ false
+short c = sym (c .before .too-long .ensures) ∙ c .if2 .left
+
+-- the reading is good, and the nodes represent its formula
+abbrev begin : tie.After-known-told → tie.Start
+begin c = c .before .before .before .before .before .before .before .before .before .before
+
+abbrev nodes : tie.After-known-told → List ℕ
+nodes c = c .before .before .before .read .last .1 .1 .1 .1 .0
+
+abbrev count : tie.After-known-told → ℕ
+count c = c .before .reading .given .0 .0
+
+represented : (c : tie.After-known-told) → Represented (begin c .args .i) 0 false (now (begin c .args .text)) (nodes c) (count c)
+represented c =
+    let z = begin c .args in
+    let r = c .before .before .before .read in
+    read-represents (z .i) 0 false (now (z .text)) (nodes c) (r .result) (count c) (c .before .reading .given .1) (r .ensures .0) (r .ensures .1)
+
+-- the number of inputs
+inputs-are : (c : tie.After-power) → c .power .result ≡ 2 ^ (begin (c .before .before) .args .i)
+inputs-are c =
+    let z = begin (c .before .before) .args in
+    let h = inputs-fit (z .i) 0 (fits (c .before .before .before .before .before .before .before)) in
+    power-is (z .i) (c .power .result) (omega arith) (c .power .ensures)
+
+bad-alphabet-requires : tie.Need-bad-alphabet-requires
+bad-alphabet-requires c κs = search needs
+
+returns : tie.Need-returns
+returns c =
+    let z = c .before .before .before .args in
+    by-alphabet (z .i) (now (z .text)) (sym (c .before .bad-alphabet .ensures) ∙ c .if1 .taken)
+
+too-long-requires : tie.Need-too-long-requires
+too-long-requires c κs = search needs
+
+returns-2 : tie.Need-returns-2
+returns-2 c =
+    let z = c .before .before .before .before .before .args in
+    by-length (z .i) (now (z .text)) (sym (c .before .before .before .bad-alphabet .ensures) ∙ c .before .before .if1 .left) (sym (c .before .too-long .ensures) ∙ c .if2 .taken)
+
+cast-read : tie.Need-cast-read
+cast-read c = let z = c .before .before .before .before .before .args in omega (arith, inputs-fit (z .i) 0 (fits c))
+
+read-requires : tie.Need-read-requires
+read-requires c κs = search needs
+
+enum-known-reading : tie.Need-enum-known-reading
+enum-known-reading c = search needs
+
+condition-refusal-requires : tie.Need-condition-refusal-requires
+condition-refusal-requires c κs = search needs
+
+returns-3 : tie.Need-returns-3
+returns-3 c =
+    let e = c .before .before .before .before in
+    let z = e .before .before .before .before .before .args in
+    let r = c .before .before .read in
+    by-reading (z .i) (now (z .text)) (fits e) (short e) (r .result) (r .ensures .0) (not-good (r .result) (c .before .match .keys2)) (c .condition-refusal .result) (c .condition-refusal .ensures)
+
+power-requires : tie.Need-power-requires
+power-requires c κs = search needs
+
+condition-mask-requires : tie.Need-condition-mask-requires
+condition-mask-requires c κs =
+    let k = c .before .before in
+    let z = begin k .args in
+    let v = represented k .represents in
+    let h = inputs-fit (z .i) 0 (fits (k .before .before .before .before .before)) in
+    let m : 2 ^ z .i ≤ 16 = pow-mono {j = 4} h in
+    (omega (arith, v .few-nodes, v .count), omega (arith, inputs-are c))
+
+returns-4 : tie.Need-returns-4
+unfolding maskOf
+returns-4 c =
+    let p = c .before in
+    let k = p .before .before in
+    let z = begin k .args in
+    let e = k .before .before .before .before .before in
+    let v = represented k in
+    by-mask (z .i) (now (z .text)) (fits e) (short e) (count k) (v .reading) (v .formula) (v .good) (static 0 (v .good .reads)) (c .condition-mask .result)
+    (c .condition-mask .ensures (v .formula) (v .represents) ∙ ap (word (λ x. value (v .formula) 1 x 0)) (inputs-are p))
+
+pub read-condition-spec : {M : Type 1} → statement M
+read-condition-spec =
+    tie.close
+    (tie.spec
+    bad-alphabet-requires
+    returns
+    too-long-requires
+    returns-2
+    cast-read
+    read-requires
+    enum-known-reading
+    condition-refusal-requires
+    returns-3
+    power-requires
+    condition-mask-requires
+    returns-4)

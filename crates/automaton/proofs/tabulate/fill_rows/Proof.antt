@@ -1,0 +1,49 @@
+-- `automaton::tabulate::fill_rows` meets its contract. The invariant: the rows of the letters below a hold their valuations. The measure is what is left of the letters. Assumes nothing.
+use native.Mathlib.Omega.{arith}
+use mathlib.Core.Path.{_≡_, refl, _∙_}
+use Prim.Native.Nat.{ℕ, suc, _+_, _-_, _*_, _≤_, _<_}
+use lib.ListN.{getD, length}
+use Rattle.reader.specs.Formula.{Formula, operators}
+use Rattle.automaton.specs.Valuation.{present}
+use Rattle.automaton.specs.Representation.{Represents}
+use Rattle.automaton.proofs.CoordinateLaws.{present-from}
+use Rattle.automaton.proofs.LoopLaws.{rows-more, rows-tabulate}
+use borrow.Author.Needs.{needs}
+use Rattle.automaton.proofs.tabulate.fill_rows.Statement.{statement}
+use Rattle.automaton.proofs.tabulate.fill_rows.Tie as tie
+
+abbrev Inv-loop : tie.InvT-loop
+Inv-loop nodes places count width letters table₀ a₀ table a =
+    (a ≤ letters) × (length table ≡ length table₀) × ((φ : Formula) → Represents nodes count φ → width ≡ suc (operators φ) → (b v : ℕ) → b < a → v < 64 → getD table (b * 64 + v) 0 ≡ present φ b v)
+
+abbrev μ-loop : tie.MeasureT-loop
+μ-loop nodes places count width letters table₀ a₀ table a = letters - a
+
+pub fill-rows-spec : {M : Type 1} → statement M
+fill-rows-spec =
+    tie.close
+    (tie.spec
+    Inv-loop
+    μ-loop
+    (λ c. (omega arith, refl, λ φ rep w b v h. absurd (let z : ⊥ = omega arith in z)))
+    (λ c κs. search needs)
+    (λ c. search needs)
+    (λ c κs. search needs)
+    (λ c. search needs)
+    (λ c. search needs)
+    (λ c.
+    let f = c .before .before .fill-row in
+    let l = c .before .before .before .before .before .letter-words in
+    let at = c .before .before .before .before .before .before .before in
+    let a = at .before .before .args in
+    let letter = at .loop .a in
+    let inv = at .loop .inv in (
+      omega arith,
+      f .kept .1 .1 .1 .0 ∙ inv .1,
+      λ φ rep w. rows-more (present φ) (f .last .1 .1 .1 .0) (at .loop .table) letter (inv .2 φ rep w) (λ v hv. f .ensures .0 v hv ∙ present-from φ letter (l .result) (a .width) w (l .ensures φ rep) v hv) (f .ensures .1),
+    ))
+    (λ c. search needs)
+    (λ c.
+    let at = c .before in
+    let a = at .before .before .args in
+    λ φ rep w. rows-tabulate φ (a .letters) (at .loop .table) (rep .few-operators) (λ b v h hv. at .loop .inv .2 φ rep w b v (omega arith) hv)))

@@ -1,0 +1,78 @@
+// The value of each node of a formula, for 64 valuations at once.
+ghost use mathlib.Core.Path.{_≡_};
+ghost use Prim.Native.Nat.{_-_, _≤_};
+ghost use lib.ListN.{getD};
+ghost use Rattle.automaton.specs.Bits.{bit, word};
+ghost use Rattle.automaton.specs.Nodes.{nodeWord, Evaluated};
+use crate::bits::test_bit;
+use crate::coordinates::coordinate;
+
+// All valuations.
+const ALL: u64 = 0xFFFF_FFFF_FFFF_FFFF;
+
+// One less, and 0 for 0.
+pub(crate) fn less_one(i: usize) -> usize
+    ensures { λ r. ⌜ r ≡ i - 1 ⌝ }
+{
+    if 0 < i { i - 1 } else { 0 }
+}
+
+// The word at k, or 0 where there is none.
+pub(crate) fn word_at(words: &[u64], k: usize) -> u64
+    ensures { λ r. ⌜ r ≡ getD (now (words .entry)) k 0 ⌝ }
+{
+    if k < words.len() { words[k] } else { 0 }
+}
+
+// All valuations where bit `argument` of the letter is 1, else none.
+fn name_word(letter: u64, argument: usize) -> u64
+    ensures { λ r. ⌜ r ≡ word (λ v. bit letter argument) 64 ⌝ }
+{
+    if argument < 64 {
+        let b = test_bit(letter, argument as u64);
+        if b == 1 {
+            return ALL;
+        }
+        return 0;
+    }
+    0
+}
+
+// A node's value for each of the 64 valuations, from its operands'.
+fn node_word(kind: usize, argument: usize, letter: u64, left: u64, right: u64) -> u64
+    ensures { λ r. ⌜ r ≡ nodeWord kind argument letter left right ⌝ }
+{
+    let c = coordinate(argument);
+    match kind {
+        0 => 0,
+        1 => ALL,
+        2 => name_word(letter, argument),
+        3 => right ^ ALL,
+        4 => c,
+        5 => c,
+        6 => right | c,
+        7 => right & c,
+        8 => right | (left & c),
+        9 => right & (left | c),
+        10 => left & right,
+        11 => left | right,
+        _ => (left ^ ALL) | right,
+    }
+}
+
+// Each node's value for each of the 64 valuations, given the letter.
+pub(crate) fn evaluate(nodes: &[usize; 64], count: usize, letter: u64) -> [u64; 64]
+    requires { ⌜ count ≤ 64 ⌝ }
+    ensures { λ r. ⌜ Evaluated (now (nodes .entry)) letter r count ⌝ }
+{
+    let mut words = [0u64; 64];
+    let mut i: usize = 0;
+    while i < count {
+        let node = nodes[i];
+        let left = word_at(&words, less_one(node / 256 % 256));
+        let right = word_at(&words, less_one(i));
+        words[i] = node_word(node % 256, node / 65536, letter, left, right);
+        i += 1;
+    }
+    words
+}

@@ -1,0 +1,63 @@
+// The temporal operators among the nodes of a formula.
+ghost use mathlib.Core.Path.{_≡_};
+ghost use Prim.Native.Nat.{_≤_, _<_};
+ghost use Rattle.reader.specs.Formula.{Formula, operators};
+ghost use Rattle.automaton.specs.Bits.{one};
+ghost use Rattle.automaton.specs.Representation.{Represents};
+ghost use Rattle.automaton.specs.Nodes.{isTemporal, coordinateOf, Located};
+
+// 1 for the node of a temporal operator, 0 for any other.
+fn operator_bit(node: usize) -> u64
+    ensures exact { λ r. ⌜ r ≡ one (isTemporal node) ⌝ }
+    ensures small { λ r. ⌜ r < 2 ⌝ }
+{
+    let kind = node % 256;
+    if kind < 4 {
+        return 0;
+    }
+    if 9 < kind {
+        return 0;
+    }
+    1
+}
+
+// The coordinate of a temporal operator's node, and 0 of any other.
+fn operator_coordinate(node: usize) -> usize
+    ensures exact { λ r. ⌜ r ≡ coordinateOf node ⌝ }
+    ensures small { λ r. ⌜ r < 8 ⌝ }
+{
+    if operator_bit(node) == 1 {
+        return node / 65536 % 8;
+    }
+    0
+}
+
+// For each coordinate the node that has it.
+pub(crate) fn operator_nodes(nodes: &[usize; 64], count: usize) -> [usize; 8]
+    requires { ⌜ count ≤ 64 ⌝ }
+    ensures { λ r. ⌜ Located (now (nodes .entry)) count r ⌝ }
+{
+    let mut places = [0usize; 8];
+    let mut i: usize = 0;
+    while i < count {
+        let j = operator_coordinate(nodes[i]);
+        places[j] = i;
+        i += 1;
+    }
+    places
+}
+
+// The number of the temporal operators.
+pub(crate) fn operator_count(nodes: &[usize; 64], count: usize) -> u64
+    requires { ⌜ count ≤ 64 ⌝ }
+    ensures exact { λ r. ⌜ ((φ : Formula) → Represents (now (nodes .entry)) count φ → r ≡ operators φ) ⌝ }
+    ensures few { λ r. ⌜ r ≤ 64 ⌝ }
+{
+    let mut n: u64 = 0;
+    let mut i: usize = 0;
+    while i < count {
+        n += operator_bit(nodes[i]);
+        i += 1;
+    }
+    n
+}

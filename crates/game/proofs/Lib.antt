@@ -1,5 +1,4 @@
 pub mod IndexLaws
-pub mod Determined
 pub mod CaseLaws
 pub mod LimitLaws
 pub mod CountLaws
@@ -9,3 +8,12 @@ pub mod AttractionLaws
 pub mod PassLaws
 pub mod PromotionLaws
 pub mod RoundLaws
+pub mod PlayLaws
+pub mod TableLaws
+pub mod StrategyLaws
+pub mod CheckLaws
+pub mod RefusalLaws
+pub mod GivenLaws
+pub mod FollowLaws
+pub mod RuleLaws
+pub mod Determined

@@ -2,8 +2,10 @@ pub mod Arena
 pub mod Play
 pub mod Strategy
 pub mod Rank
+pub mod Solver
 pub mod Tables
+pub mod Bytes
+pub mod Checks
 pub mod Given
 pub mod Follower
 pub mod Rule
-pub mod Solver

@@ -1,5 +1,8 @@
 // The game on an automaton: the two tables, the call for a rule, the call for a given automaton, and the follower.
 pub mod answer;
 mod arena;
-mod solve;
+mod checks;
 pub mod follow;
+pub mod given;
+mod solve;
+mod tables;

@@ -1,0 +1,177 @@
+-- The refusals of the call for a given automaton: which test decides, and what is known where none does.
+-- Assumes nothing.
+use Prim.Native.Nat.{ℕ, zero, suc, _+_, _*_, _<_, _≤_}
+use mathlib.Core.Path.{_≡_, refl, ap, subst}
+use mathlib.Core.Bool.{Bool, true, false, cond, _||_}
+use mathlib.Core.List.{List, [], _∷_}
+use native.Mathlib.Numerals.{add-one}
+use native.Mathlib.Omega.{arith}
+use lib.Dec.{ltb, leb}
+use lib.ListN.{length, getD, take, drop, drop-of-length-le}
+use lib.Seq.{drop-cons, getD-take, length-take-le}
+use borrow.Author.Tests.{le-leb, lt-leb, leb-false, lt-ltb, le-ltb, ltb-false}
+use Rattle.reader.specs.declared.refusal.Refusal.{Refusal}
+use Rattle.reader.specs.declared.refusal.Refusal.the-variants.{Nothing, Alphabet, Buffer, GivenCount, Move, State, Value}
+use Rattle.reader.specs.Refusal.{numberOf}
+use Rattle.automaton.specs.Limits.{stateLimit}
+use Rattle.automaton.specs.Alphabet.{badAlphabet}
+use Rattle.automaton.specs.Trial.{firstOver}
+use Rattle.game.specs.declared.answer.Answer.the-variants.{Refused}
+use Rattle.game.specs.Arena.{Arena, arena}
+use Rattle.game.specs.Rank.{Valid}
+use Rattle.game.specs.Tables.{Tables, Verdict}
+use Rattle.game.specs.Given.{badCount, moveCount, shortRead, shortTables, badMask, laterRefusal, givenRefusal, verdictOf, Solved}
+use Rattle.reader.proofs.BoolLaws.{on, or-left, or-right}
+use Rattle.game.proofs.CheckLaws.{in-range, transitions-long, accepting-long}
+
+-- the scan for the first byte that is too large, after k bytes
+module _ (bound : ℕ) (l : List ℕ) (k : ℕ) (scanned : k + firstOver bound (drop k l) ≡ firstOver bound l) where
+  pub over-found : k < length l → bound ≤ getD l k 0 → k ≡ firstOver bound l
+  unfolding firstOver
+  over-found h b =
+      let e : firstOver bound (drop k l) ≡ 0 = rw (drop-cons l k 0 h, le-leb bound (getD l k 0) b) in
+      omega (arith, e, scanned)
+
+  pub over-next : k < length l → getD l k 0 < bound → k + 1 + firstOver bound (drop (k + 1) l) ≡ firstOver bound l
+  unfolding firstOver
+  over-next h b =
+      let e : firstOver bound (drop k l) ≡ suc (firstOver bound (drop (suc k) l)) = rw (drop-cons l k 0 h, lt-leb bound (getD l k 0) b) in
+      rw add-one (omega (arith, e, scanned))
+
+  pub over-end : length l ≤ k → k ≡ firstOver bound l
+  unfolding firstOver
+  over-end h = let e : firstOver bound (drop k l) ≡ 0 = rw (drop-of-length-le l h) in omega (arith, e, scanned)
+
+-- where the scan runs to the end, every byte is below the bound
+over-none : (bound : ℕ) (l : List ℕ) → length l ≤ firstOver bound l → (k : ℕ) → k < length l → getD l k 0 < bound
+unfolding firstOver
+over-none bound [] h k lt = absurd (let z : ⊥ = omega arith in z)
+over-none bound (a ∷ l) h zero lt =
+    on (leb bound a) (λ e. let z : ⊥ = omega (arith, rw e at h) in absurd z) (λ e. leb-false bound a e)
+over-none bound (a ∷ l) h (suc k) lt =
+    on (leb bound a)
+    (λ e. let z : ⊥ = omega (arith, rw e at h) in absurd z)
+    (λ e. over-none bound l (let g : length l ≤ firstOver bound l = omega (arith, rw e at h) in g) k (let g : k < length l = omega arith in g))
+
+-- the test that decides, in the order 3, 12, 11, 13
+module _ (start : ℕ) (G : Arena) (σ τ : List ℕ) where
+  pub read-refused : shortRead G ≡ true → Buffer ≡ laterRefusal start G σ τ
+  unfolding laterRefusal
+  read-refused a = rw a
+
+  module _ (a : shortRead G ≡ false) where
+    pub tables-refused : shortTables G σ τ ≡ true → Buffer ≡ laterRefusal start G σ τ
+    unfolding laterRefusal
+    tables-refused b = rw (a, b)
+
+    module _ (b : shortTables G σ τ ≡ false) where
+      pub state-refused : G .states ≤ start → State ≡ laterRefusal start G σ τ
+      unfolding laterRefusal
+      state-refused c = rw (a, b, le-leb (G .states) start c)
+
+      module _ (c : start < G .states) (k : ℕ) (is : k ≡ firstOver (G .states) (take (moveCount G) (G .transitions))) where
+        share : length (take (moveCount G) (G .transitions)) ≡ moveCount G
+        share = length-take-le (moveCount G) (G .transitions) (transitions-long G a)
+
+        pub move-refused : k < moveCount G → Move k ≡ laterRefusal start G σ τ
+        unfolding laterRefusal
+        move-refused d =
+            rw (a, b, lt-leb (G .states) start c, share, ← is, lt-ltb k (moveCount G) d)
+
+        module _ (d : moveCount G ≤ k) where
+          pub mask-refused : badMask G ≡ true → Value 0 ≡ laterRefusal start G σ τ
+          unfolding laterRefusal
+          mask-refused e = rw (a, b, lt-leb (G .states) start c, share, ← is, le-ltb k (moveCount G) d, e)
+
+          pub none-refused : badMask G ≡ false → Nothing ≡ laterRefusal start G σ τ
+          unfolding laterRefusal
+          none-refused e = rw (a, b, lt-leb (G .states) start c, share, ← is, le-ltb k (moveCount G) d, e)
+
+-- the tests before them, 1 and 10
+module _ (i o start : ℕ) (G : Arena) (σ τ : List ℕ) where
+  pub alphabet-refused : badAlphabet i o ≡ true → Alphabet ≡ givenRefusal i o start G σ τ
+  unfolding givenRefusal
+  alphabet-refused a = rw a
+
+  module _ (a : badAlphabet i o ≡ false) where
+    pub count-refused : badCount (G .states) ≡ true → GivenCount ≡ givenRefusal i o start G σ τ
+    unfolding givenRefusal
+    count-refused b = rw (a, b)
+
+    pub refused-later : badCount (G .states) ≡ false → (r : Refusal) → r ≡ laterRefusal start G σ τ → r ≡ givenRefusal i o start G σ τ
+    unfolding givenRefusal
+    refused-later b r h = rw (a, b) h
+
+-- where nothing is refused, the test before it passed
+passed : (b : Bool) (x y : Refusal) → 0 < numberOf x → cond b x y ≡ Nothing → (b ≡ false) × (y ≡ Nothing)
+passed true x y p e = let z : ⊥ = omega (arith, ap numberOf e) in absurd z
+passed false x y p e = (refl, e)
+
+-- what is known of an automaton that is not refused
+pub record Accepted (i o start : ℕ) (G : Arena) (σ τ : List ℕ) : Type 0 where
+  pub alphabet : badAlphabet i o ≡ false
+  pub valid : Valid G
+  pub start-fits : start < G .states
+  pub inputs-some : 0 < G .inputs
+  pub system-long : stateLimit * G .inputs ≤ length σ
+  pub environment-long : stateLimit ≤ length τ
+
+record Later (start : ℕ) (G : Arena) (σ τ : List ℕ) : Type 0 where
+  pub read : shortRead G ≡ false
+  pub tables : shortTables G σ τ ≡ false
+  pub start-fits : start < G .states
+  pub closed : (k : ℕ) → k < moveCount G → getD (G .transitions) k 0 < G .states
+
+later-accepted : (start : ℕ) (G : Arena) (σ τ : List ℕ) → laterRefusal start G σ τ ≡ Nothing → Later start G σ τ
+unfolding laterRefusal
+later-accepted start G σ τ e =
+    let T = take (moveCount G) (G .transitions) in
+    let short = passed (shortRead G || shortTables G σ τ) Buffer _ (omega arith) e in
+    let state = passed (leb (G .states) start) State _ (omega arith) (short .1) in
+    let move = passed (ltb (firstOver (G .states) T) (length T)) (Move (firstOver (G .states) T)) _ (omega arith) (state .1) in
+    let read = or-left (shortRead G) (shortTables G σ τ) (short .0) in
+    let share : length T ≡ moveCount G = length-take-le (moveCount G) (G .transitions) (transitions-long G read) in
+    record {
+      read = read;
+      tables = or-right (shortRead G) (shortTables G σ τ) (short .0);
+      start-fits = leb-false (G .states) start (state .0);
+      closed = λ k h. subst (λ (v : ℕ). v < G .states) (getD-take (moveCount G) (G .transitions) k 0 h)
+          (over-none (G .states) T (ltb-false (firstOver (G .states) T) (length T) (move .0)) k (let q : k < length T = omega arith in q));
+    }
+
+pub accepted : (i o start n : ℕ) (transitions flags : List ℕ) (mask : ℕ) (σ τ : List ℕ) → givenRefusal i o start (arena i o n transitions flags mask) σ τ ≡ Nothing
+    → Accepted i o start (arena i o n transitions flags mask) σ τ
+unfolding givenRefusal
+accepted i o start n transitions flags mask σ τ e =
+    let G = arena i o n transitions flags mask in
+    let alphabet = passed (badAlphabet i o) Alphabet _ (omega arith) e in
+    let count = passed (badCount n) GivenCount _ (omega arith) (alphabet .1) in
+    let later = later-accepted start G σ τ (count .1) in
+    let range = in-range true mask n i o (alphabet .0) (count .0) in
+    let tables = later .tables in
+    record {
+      alphabet = alphabet .0;
+      valid = record {
+        moving = record {
+          states-fit = range .states-fit;
+          inputs-fit = range .inputs-fit;
+          outputs-fit = range .outputs-fit;
+          long = transitions-long G (later .read);
+          closed = later .closed;
+        };
+        accepting-long = accepting-long G (later .read);
+      };
+      start-fits = later .start-fits;
+      inputs-some = range .inputs-some;
+      system-long = ltb-false (length σ) (stateLimit * G .inputs) (or-left (ltb (length σ) (stateLimit * G .inputs)) (ltb (length τ) stateLimit) tables);
+      environment-long = ltb-false (length τ) stateLimit (or-right (ltb (length σ) (stateLimit * G .inputs)) (ltb (length τ) stateLimit) tables);
+    }
+
+-- the promise of a refused call, and of a served one
+pub solved-refused : (refusal : Refusal) (fair : Bool) (start : ℕ) (G : Arena) (σ τ : List ℕ) → (refusal ≡ Nothing → ⊥) → Solved refusal fair start G σ τ σ τ (Refused refusal)
+solved-refused refusal fair start G σ τ ne = record { refused = λ _. (refl, refl, refl); served = λ e. absurd (ne e) }
+
+pub solved-served : (refusal : Refusal) (fair : Bool) (start : ℕ) (G : Arena) (σ₀ τ₀ σ τ : List ℕ) (can : Bool) → refusal ≡ Nothing → Tables fair G σ₀ τ₀ σ τ
+    → Verdict fair G σ τ start can → Solved refusal fair start G σ₀ τ₀ σ τ (verdictOf can (G .states))
+solved-served refusal fair start G σ₀ τ₀ σ τ can e t v =
+    record { refused = λ ne. absurd (ne e); served = λ _. (can, refl, t, v) }

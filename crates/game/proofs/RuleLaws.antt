@@ -1,0 +1,164 @@
+-- From the automaton of a formula to the rule call: on its arena a play reaches a goal exactly when a beginning of it, read as letters, satisfies the formula.
+-- So a strategy that wins the game from state 0 keeps the promise that the rule call makes of it.
+-- Assumes nothing.
+use Prim.Native.Nat.{ℕ, zero, suc, _*_, _/_, _%_, _^_, _<_, _≤_}
+use mathlib.Core.Path.{_≡_, refl, sym, ap, _∙_, subst}
+use mathlib.Core.Bool.{Bool, true, false}
+use mathlib.Core.List.{List, [], _∷_}
+use mathlib.Core.Logic.{_⊎_, ⊎-elim, _↔_}
+use native.Mathlib.Nat.{mul-le-mul-right, mul-pos, div-add-mod', div-lt-iff-lt-mul, mod-lt}
+use native.Mathlib.Omega.{arith}
+use lib.ListN.{length, getD, take}
+use lib.Pow.{pow-add, pow-pos}
+use Rattle.reader.specs.Formula.{Formula}
+use Rattle.automaton.specs.Limits.{stateLimit}
+use Rattle.automaton.specs.Alphabet.{badAlphabet, Letters, letterCount, letterOf}
+use Rattle.automaton.specs.Bits.{one}
+use Rattle.automaton.specs.Trace.{Satisfies}
+use Rattle.automaton.specs.State.{start, accepts}
+use Rattle.automaton.specs.Discovery.{begin, states}
+use Rattle.automaton.specs.Automaton.{walk, Automaton}
+use Rattle.game.specs.Arena.{Arena, arena, next, goal}
+use Rattle.game.specs.Play.{Step, Legal, entered, run, reaches, letters, Along}
+use Rattle.game.specs.Strategy.{BySystem, ByEnvironment, SystemWins, EnvironmentWins}
+use Rattle.game.specs.Rank.{Valid}
+use Rattle.game.specs.Rule.{Satisfied, Can, Cannot}
+use Rattle.reader.proofs.BoolLaws.{on, clash, or-cases, or-true}
+use Rattle.game.proofs.IndexLaws.{letter-below}
+use Rattle.game.proofs.CheckLaws.{small-power, few-inputs, few-outputs}
+
+-- a beginning of a play
+module _ (G : Arena) where
+  take-along : (R : ℕ → Step → Type 0) (s : ℕ) (p : List Step) (k : ℕ) → Along G R s p → Along G R s (take k p)
+  unfolding Along
+  take-along R s p zero h = tt
+  take-along R s [] (suc k) h = tt
+  take-along R s (a ∷ p) (suc k) h = (h .0, take-along R (entered G s a) p k (h .1))
+
+  take-letters : (p : List Step) (k : ℕ) → take k (letters G p) ≡ letters G (take k p)
+  unfolding letters
+  take-letters p zero = refl
+  take-letters [] (suc k) = refl
+  take-letters (a ∷ p) (suc k) = ap (λ (w : List ℕ). letterOf (G .inputs) (a .input) (a .output) ∷ w) (take-letters p k)
+
+  -- a play reaches a goal exactly when some beginning of it stands on one
+  reaches-beginning : (s : ℕ) (p : List Step) → reaches G s p ≡ true → (k : ℕ) × (0 < k) × (k ≤ length p) × (goal G (run G s (take k p)) ≡ true)
+  unfolding reaches run
+  reaches-beginning s [] e = absurd (mathlib.Core.Bool.false≢true e)
+  reaches-beginning s (a ∷ p) e =
+      ⊎-elim
+      (λ g. (1, omega arith, omega arith, g))
+      (λ h. let w = reaches-beginning (entered G s a) p h in (suc (w .0), omega arith, omega (arith, w .2), w .3))
+      (or-cases (goal G (entered G s a)) (reaches G (entered G s a) p) e)
+
+  beginning-reaches : (s : ℕ) (p : List Step) (k : ℕ) → 0 < k → k ≤ length p → goal G (run G s (take k p)) ≡ true → reaches G s p ≡ true
+  unfolding reaches run
+  beginning-reaches s p zero z l g = absurd (let z : ⊥ = omega arith in z)
+  beginning-reaches s [] (suc k) z l g = absurd (let z : ⊥ = omega arith in z)
+  beginning-reaches s (a ∷ p) (suc zero) z l g = rw g
+  beginning-reaches s (a ∷ p) (suc (suc k)) z l g =
+      rw (beginning-reaches (entered G s a) p (suc k) (omega arith) (omega arith) g) (or-true (goal G (entered G s a)))
+
+  -- the transitions follow the letters as a play follows its steps
+  walk-run : (s : ℕ) (p : List Step) → walk (G .transitions) (G .inputs * G .outputs) s (letters G p) ≡ run G s p
+  unfolding walk run letters next
+  walk-run s [] = refl
+  walk-run s (a ∷ p) = walk-run (entered G s a) p
+
+  -- steps in range are letters
+  steps-letters : (R : ℕ → Step → Type 0) → ((s : ℕ) (a : Step) → R s a → Legal G a) → (s : ℕ) (p : List Step) → Along G R s p → Letters (G .inputs * G .outputs) (letters G p)
+  unfolding Along letters Letters
+  steps-letters R legal s [] h = tt
+  steps-letters R legal s (a ∷ p) h =
+      let l = legal s a (h .0) in
+      (letter-below (G .inputs) (G .outputs) (a .input) (a .output) (l .0) (l .1), steps-letters R legal (entered G s a) p (h .1))
+
+-- the start is a state
+pub some-state : {φ : Formula} {L n : ℕ} {transitions flags : List ℕ} → Automaton φ L n transitions flags → 0 < n
+some-state {φ} automaton = let w = automaton .numbering .complete (start φ) begin in omega (arith, w .1, automaton .count)
+
+-- The arena is that of the formula's automaton, and R allows only steps in range.
+module _ (φ : Formula) (G : Arena) (automaton : Automaton φ (G .inputs * G .outputs) (G .states) (G .transitions) (G .accepting))
+    (R : ℕ → Step → Type 0) (legal : (s : ℕ) (a : Step) → R s a → Legal G a) where
+  run-below : (s : ℕ) (p : List Step) → s < G .states → Along G R s p → run G s p < G .states
+  unfolding Along run next
+  run-below s [] l h = l
+  run-below s (a ∷ p) l h =
+      let r = legal s a (h .0) in
+      run-below (entered G s a) p (automaton .moved s (letterOf (G .inputs) (a .input) (a .output)) l (letter-below (G .inputs) (G .outputs) (a .input) (a .output) (r .0) (r .1)) .0) (h .1)
+
+  -- an accepting state's flag is 1
+  goal-flag : (s : ℕ) → s < G .states → goal G s ≡ true → getD (G .accepting) s 0 ≡ 1
+  unfolding goal
+  goal-flag s l g =
+      on (accepts φ (getD (states φ (G .inputs * G .outputs)) s 0))
+      (λ t. automaton .marked s l ∙ ap one t)
+      (λ f. clash (goal G s) g (rw (automaton .marked s l ∙ ap one f)))
+
+  flag-goal : (s : ℕ) → getD (G .accepting) s 0 ≡ 1 → goal G s ≡ true
+  unfolding goal
+  flag-goal s e = rw e
+
+  -- a play of at least one step stands on a goal exactly when its letters satisfy the formula
+  play-meaning : (a : Step) (p : List Step) → Along G R 0 (a ∷ p) → (goal G (run G 0 (a ∷ p)) ≡ true) ↔ Satisfies φ (letters G (a ∷ p))
+  unfolding letters
+  play-meaning a p h =
+      let m = automaton .meaning (letterOf (G .inputs) (a .input) (a .output)) (letters G p) (steps-letters G R legal 0 (a ∷ p) h) in
+      let e : walk (G .transitions) (G .inputs * G .outputs) 0 (letters G (a ∷ p)) ≡ run G 0 (a ∷ p) = walk-run G 0 (a ∷ p) in (
+        (λ g. m .0 (ap (λ (s : ℕ). getD (G .accepting) s 0) e ∙ goal-flag (run G 0 (a ∷ p)) (run-below 0 (a ∷ p) (some-state automaton) h) g)),
+        (λ s. flag-goal (run G 0 (a ∷ p)) (ap (λ (s : ℕ). getD (G .accepting) s 0) (sym e) ∙ m .1 s)),
+      )
+
+  beginning-meaning : (p : List Step) (k : ℕ) → 0 < k → k ≤ length p → Along G R 0 p → (goal G (run G 0 (take k p)) ≡ true) ↔ Satisfies φ (take k (letters G p))
+  beginning-meaning p zero z l h = absurd (let z : ⊥ = omega arith in z)
+  beginning-meaning [] (suc k) z l h = absurd (let z : ⊥ = omega arith in z)
+  beginning-meaning (a ∷ p) (suc k) z l h =
+      subst (λ (w : List ℕ). (goal G (run G 0 (a ∷ take k p)) ≡ true) ↔ Satisfies φ w) (sym (take-letters G (a ∷ p) (suc k))) (play-meaning a (take k p) (take-along G R 0 (a ∷ p) (suc k) h))
+
+  pub reached-satisfied : (p : List Step) → Along G R 0 p → reaches G 0 p ≡ true → Satisfied φ G p
+  reached-satisfied p h e =
+      let w = reaches-beginning G 0 p e in
+      (w .0, w .1, w .2, beginning-meaning p (w .0) (w .1) (w .2) h .0 (w .3))
+
+  pub satisfied-reached : (p : List Step) → Along G R 0 p → Satisfied φ G p → reaches G 0 p ≡ true
+  satisfied-reached p h w = beginning-reaches G 0 p (w .0) (w .1) (w .2) (beginning-meaning p (w .0) (w .1) (w .2) h .1 (w .3))
+
+-- What the rule call needs: an arena that the solver may be given, and its two promises from the game's.
+module _ (φ : Formula) (i o n : ℕ) (transitions flags : List ℕ) (mask : ℕ) (automaton : Automaton φ (letterCount i o) n transitions flags) where
+  abbrev G : Arena
+  G = arena i o n transitions flags mask
+
+  on-product : Automaton φ (2 ^ i * 2 ^ o) n transitions flags
+  on-product = subst (λ (L : ℕ). Automaton φ L n transitions flags) (pow-add 2 i o) automaton
+
+  -- the solver may be given this arena
+  pub automaton-valid : badAlphabet i o ≡ false → n ≤ stateLimit → stateLimit * letterCount i o ≤ length transitions → stateLimit ≤ length flags → Valid G
+  automaton-valid a few long wide =
+      let L = 2 ^ i * 2 ^ o in
+      let positive : 0 < L = mul-pos (pow-pos i) (pow-pos o) in
+      record {
+        moving = record {
+          states-fit = few;
+          inputs-fit = small-power i (few-inputs i o a);
+          outputs-fit = small-power o (few-outputs i o a);
+          long = omega (arith, mul-le-mul-right L few, ap (λ (m : ℕ). 128 * m) (pow-add 2 i o));
+          closed = λ k h. subst (λ (j : ℕ). getD transitions j 0 < n) (div-add-mod' k L) (on-product .moved (k / L) (k % L) (div-lt-iff-lt-mul positive .1 h) (mod-lt k positive) .0);
+        };
+        accepting-long = omega arith;
+      }
+
+  pub can-keep : (fair : Bool) (σ : List ℕ) → SystemWins fair G σ 0 → Can fair φ G σ
+  can-keep fair σ w =
+      record {
+        satisfying = λ p h o. reached-satisfied φ G on-product (BySystem G σ) (λ s a b. b .0) p h (w .reaching p h o);
+        answers = λ p h never. w .answers p h
+            (on (reaches G 0 p) (λ t. absurd (never (reached-satisfied φ G on-product (BySystem G σ) (λ s a b. b .0) p h t))) (λ f. f));
+      }
+
+  pub cannot-keep : (fair : Bool) (τ : List ℕ) → EnvironmentWins fair G τ 0 → Cannot fair φ G τ
+  cannot-keep fair τ w =
+      record {
+        avoiding = λ p h s. clash (reaches G 0 p) (satisfied-reached φ G on-product (ByEnvironment G τ) (λ s a b. b .0) p h s) (w .avoiding p h);
+        keeping = w .keeping;
+        answers = w .answers;
+      }

@@ -1,0 +1,128 @@
+-- From ranks to bytes: a rank below the limit is one that the ranks allow, and a list that is filled from the front, byte by byte.
+-- Assumes nothing.
+use Prim.Native.Nat.{ℕ, _+_, _<_, _≤_}
+use mathlib.Core.Path.{_≡_, refl, sym, _∙_, subst}
+use mathlib.Core.Bool.{Bool, true, false, not}
+use mathlib.Core.List.{List}
+use mathlib.Core.Logic.{_⊎_}
+use native.Mathlib.Omega.{arith}
+use lib.Dec.{eqb, leb}
+use lib.ListN.{length, getD, set}
+use lib.Seq.{getD-set-same, getD-set-other}
+use borrow.Author.Tests.{eqb-true, eqb-false, eq-eqb, ne-eqb, leb-true, leb-false}
+use Rattle.game.specs.Arena.{Arena, next, goal, holds, lacks}
+use Rattle.game.specs.Rank.{judged, Safe, Falls, Ranked}
+use Rattle.game.specs.Tables.{noMove}
+use Rattle.game.specs.Bytes.{limitOf, Below, IsBelow, GoodOutput, SomeOutput, EveryOutput, AllowedInput, SystemByte, EnvironmentByte}
+use Rattle.reader.proofs.BoolLaws.{on, clash}
+
+-- what the player asks of the entered state, in a weaker form
+pub safe-map : (G : Arena) (player : Bool) (t : ℕ) {D E : Type 0} → (D → E) → Safe G player t D → Safe G player t E
+safe-map G true t f (_⊎_.inl g) = _⊎_.inl g
+safe-map G true t f (_⊎_.inr d) = _⊎_.inr (f d)
+safe-map G false t f (g, d) = (g, f d)
+
+-- what is known of the state t that the code entered, said of the next state
+module _ (G : Arena) (s x y t : ℕ) (is : t ≡ next G s x y) where
+  pub goal-in : (getD (G .accepting) t 0 ≡ 0 → ⊥) → goal G (next G s x y) ≡ true
+  unfolding goal
+  goal-in h = subst (λ (u : ℕ). not (eqb (getD (G .accepting) u 0) 0) ≡ true) is (rw (ne-eqb (getD (G .accepting) t 0) 0 h))
+
+  pub goal-out : getD (G .accepting) t 0 ≡ 0 → goal G (next G s x y) ≡ false
+  unfolding goal
+  goal-out h = subst (λ (u : ℕ). not (eqb (getD (G .accepting) u 0) 0) ≡ false) is (rw (eq-eqb (getD (G .accepting) t 0) 0 h))
+
+  module _ (r : List ℕ) (limit : ℕ) where
+    pub below-in : Below r limit t → Below r limit (next G s x y)
+    below-in h = subst (λ (u : ℕ). Below r limit u) is h
+
+    pub below-out : Below r limit (next G s x y) → Below r limit t
+    below-out h = subst (λ (u : ℕ). Below r limit u) (sym is) h
+
+    -- neither a goal nor a rank below the limit
+    pub bad-output : getD (G .accepting) t 0 ≡ 0 → (Below r limit t → ⊥) → GoodOutput G r limit s x y → ⊥
+    bad-output g b (_⊎_.inl e) = clash (goal G (next G s x y)) e (goal-out g)
+    bad-output g b (_⊎_.inr d) = b (below-out d)
+
+-- the test of a rank
+pub no-rank : (r : List ℕ) (limit t : ℕ) → getD r t 0 ≡ 0 → IsBelow r limit t false
+no-rank r limit t e =
+    record { inside = λ h. absurd (mathlib.Core.Bool.false≢true h); outside = λ _ b. let z : ⊥ = omega (arith, b .0) in z }
+
+pub some-rank : (r : List ℕ) (limit t : ℕ) → (getD r t 0 ≡ 0 → ⊥) → IsBelow r limit t (leb (getD r t 0) limit)
+some-rank r limit t e =
+    record {
+      inside = λ h. (omega arith, leb-true (getD r t 0) limit h);
+      outside = λ h b. let z : ⊥ = omega (arith, leb-false (getD r t 0) limit h, b .1) in z;
+    }
+
+-- a rank falls as it should exactly when it is below the limit
+pub falls-limit : (G : Arena) (player steady : Bool) (r : List ℕ) → ((t : ℕ) → getD r t 0 ≤ 128) → (s x t : ℕ) → 0 < getD r s 0 → (b : Bool) → b ≡ judged G player x
+    → Falls G player steady r s x t → Below r (limitOf steady b (getD r s 0)) t
+falls-limit G player steady r h s x t p true e d = (d .0, omega (arith, d .1 (sym e)))
+falls-limit G player true r h s x t p false e d = (d .0, d .2 refl)
+falls-limit G player false r h s x t p false e d = (d .0, omega (arith, h t))
+
+pub limit-falls : (G : Arena) (player steady : Bool) (r : List ℕ) (s x t : ℕ) → 0 < getD r s 0 → (b : Bool) → b ≡ judged G player x
+    → Below r (limitOf steady b (getD r s 0)) t → Falls G player steady r s x t
+limit-falls G player steady r s x t p true e d = (d .0, (λ _. omega (arith, d .1)), (λ _. omega (arith, d .1)))
+limit-falls G player true r s x t p false e d = (d .0, (λ h. absurd (mathlib.Core.Bool.false≢true (e ∙ h))), (λ _. d .1))
+limit-falls G player false r s x t p false e d = (d .0, (λ h. absurd (mathlib.Core.Bool.false≢true (e ∙ h))), (λ h. absurd (mathlib.Core.Bool.false≢true h)))
+
+-- The same on the state that a step enters, for either player, where `limit` is that of the input.
+module _ (G : Arena) (player steady : Bool) (small : G .states ≤ 128) (r : List ℕ) (rk : Ranked G player steady r) (s x : ℕ) (p : 0 < getD r s 0)
+    (b : Bool) (eb : b ≡ judged G player x) (limit : ℕ) (el : limit ≡ limitOf steady b (getD r s 0)) where
+  pub safe-limit : (t : ℕ) → Safe G player t (Falls G player steady r s x t) → Safe G player t (Below r limit t)
+  safe-limit t =
+      safe-map G player t
+      (λ d. subst (λ (m : ℕ). Below r m t) (sym el) (falls-limit G player steady r (λ u. omega (arith, rk .bound u)) s x t p b eb d))
+
+  pub limit-safe : (t : ℕ) → Safe G player t (Below r limit t) → Safe G player t (Falls G player steady r s x t)
+  limit-safe t = safe-map G player t (λ d. limit-falls G player steady r s x t p b eb (subst (λ (m : ℕ). Below r m t) el d))
+
+-- the system's byte: an output below the limit exists, and any such is allowed
+module _ (fair : Bool) (G : Arena) (small : G .states ≤ 128) (r : List ℕ) (rk : Ranked G true fair r) (s x : ℕ) (p : 0 < getD r s 0)
+    (b : Bool) (eb : b ≡ holds G x) (limit : ℕ) (el : limit ≡ limitOf fair b (getD r s 0)) where
+  pub some-output : x < G .inputs → SomeOutput G r limit s x
+  some-output hx =
+      let w = rk .forced s p x hx in
+      (w .0, w .1, safe-limit G true fair small r rk s x p b eb limit el (next G s x (w .0)) (w .2))
+
+  pub output-is-byte : (y : ℕ) → (y < G .outputs) × GoodOutput G r limit s x y → SystemByte fair G r s x y
+  output-is-byte y h =
+      record {
+        none = λ e. let z : ⊥ = omega arith in absurd z;
+        allowed = λ _. (h .0, limit-safe G true fair small r rk s x p b eb limit el (next G s x y) (h .1));
+      }
+
+-- the environment's byte: an input all whose outputs are below the limit is allowed, and any other is not
+module _ (fair : Bool) (G : Arena) (small : G .states ≤ 128) (r : List ℕ) (rk : Ranked G false (not fair) r) (s x : ℕ) (p : 0 < getD r s 0)
+    (b : Bool) (eb : b ≡ lacks G x) (limit : ℕ) (el : limit ≡ limitOf (not fair) b (getD r s 0)) where
+  pub allowed-every : AllowedInput fair G r s x → EveryOutput G r limit s x
+  allowed-every h y l = safe-limit G false (not fair) small r rk s x p b eb limit el (next G s x y) (h .1 y l)
+
+  pub every-allowed : x < G .inputs → EveryOutput G r limit s x → AllowedInput fair G r s x
+  every-allowed hx h = (hx, λ y l. limit-safe G false (not fair) small r rk s x p b eb limit el (next G s x y) (h y l))
+
+pub input-is-byte : (fair : Bool) (G : Arena) (r : List ℕ) (s x : ℕ) → 0 < getD r s 0 → AllowedInput fair G r s x → EnvironmentByte fair G r s x
+input-is-byte fair G r s x p h = record { none = λ e. let z : ⊥ = omega arith in absurd z; allowed = λ _. h }
+
+-- where a player has no rank it has no move
+pub no-output : (fair : Bool) (G : Arena) (r : List ℕ) (s x : ℕ) → getD r s 0 ≡ 0 → SystemByte fair G r s x noMove
+no-output fair G r s x e = record { none = λ _. refl; allowed = λ p. let z : ⊥ = omega arith in absurd z }
+
+pub no-input : (fair : Bool) (G : Arena) (r : List ℕ) (s : ℕ) → getD r s 0 ≡ 0 → EnvironmentByte fair G r s noMove
+no-input fair G r s e = record { none = λ _. refl; allowed = λ p. let z : ⊥ = omega arith in absurd z }
+
+-- a list that is filled from the front, by a rule for each index
+module _ (P : ℕ → ℕ → Type 0) (l₀ l : List ℕ) (i v : ℕ) (h : i < length l) where
+  pub fill-below : ((k : ℕ) → k < i → P k (getD l k 0)) → P i v → (k : ℕ) → k < i + 1 → P k (getD (set l i v) k 0)
+  fill-below below here k lt =
+      on (eqb k i)
+      (λ e. let q = eqb-true k i e in
+      subst (λ (j : ℕ). P j (getD (set l i v) j 0)) (sym q) (subst (λ (w : ℕ). P i w) (sym (getD-set-same l i v 0 h)) here))
+      (λ e. let d = eqb-false k i e in
+      subst (λ (w : ℕ). P k w) (sym (getD-set-other l i k v 0 d)) (below k (let q : k < i = omega arith in q)))
+
+  pub fill-rest : ((k : ℕ) → i ≤ k → getD l k 0 ≡ getD l₀ k 0) → (k : ℕ) → i + 1 ≤ k → getD (set l i v) k 0 ≡ getD l₀ k 0
+  fill-rest rest k le = getD-set-other l i k v 0 (λ e. let z : ⊥ = omega arith in z) ∙ rest k (let q : i ≤ k = omega arith in q)

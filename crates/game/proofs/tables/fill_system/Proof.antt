@@ -1,0 +1,58 @@
+-- `game::tables::fill_system` meets its contract. Invariant: the bytes below k are the system's, those from k on are as they were, and the length is
+-- kept. Measure: the bytes left.
+-- Assumes nothing.
+use borrow.Author.Needs.{needs}
+use native.Mathlib.Omega.{arith}
+use mathlib.Core.Path.{_≡_, refl, _∙_}
+use Prim.Native.Nat.{ℕ, _*_, _-_, _/_, _%_, _<_, _≤_}
+use borrow.Author.Count.{below-none}
+use lib.ListN.{length, getD, length-set}
+use denote.Ref.{now}
+use Rattle.game.specs.Rank.{arenaOf}
+use native.Mathlib.Nat.{div-lt-iff-lt-mul, mod-lt}
+use Rattle.game.specs.Bytes.{SystemByte}
+use Rattle.game.proofs.TableLaws.{fill-below, fill-rest}
+use Rattle.game.proofs.tables.fill_system.Statement.{statement}
+use Rattle.game.proofs.tables.fill_system.Tie as tie
+
+abbrev Inv-loop : tie.InvT-loop
+Inv-loop g transitions accepting ranks system₀ inputs total k₀ system k =
+    (k ≤ 128 * g .inputs)
+    × ((j : ℕ) → j < k → SystemByte (g .fair) (arenaOf g transitions accepting) ranks (j / g .inputs) (j % g .inputs) (getD system j 0))
+    × ((j : ℕ) → k ≤ j → getD system j 0 ≡ getD system₀ j 0)
+    × (length system ≡ length system₀)
+
+abbrev μ-loop : tie.MeasureT-loop
+μ-loop g transitions accepting ranks system₀ inputs total k₀ system k = 128 * g .inputs - k
+
+pub fill-system-spec : {M : Type 1} → statement M
+fill-system-spec =
+    tie.close
+    (tie.spec
+    Inv-loop
+    μ-loop
+    (λ c. omega (arith, c .before .before .before .pre .0 .moving .inputs-fit))
+    (λ c. (search needs, below-none _, (λ k _. refl), refl))
+    (λ c. c .before .before .before .before .before .pre .1 .1 .0)
+    (λ c. c .before .before .before .before .before .pre .1 .1 .0)
+    (λ c κs.
+    let z = c .before .before .before .before .before in
+    (z .pre .0, (z .pre .1 .0, (div-lt-iff-lt-mul (z .pre .1 .1 .0) .1 (c .loop-test .taken), mod-lt (c .before .loop .k) (z .pre .1 .1 .0)))))
+    (λ c. omega (arith, c .before .before .before .before .before .before .pre .1 .1))
+    (λ c. omega (arith, c .before .before .before .before .before .before .pre .0 .moving .inputs-fit))
+    (λ c. omega arith)
+    (λ c.
+    let z = c .before .before .before .before .before .before in
+    let l = c .before .before .loop in
+    let b = c .system-byte in
+    let fits : l .k < length (l .system) = omega (arith, z .pre .1 .1) in
+    let P : ℕ → ℕ → Type 0 = λ k v. SystemByte (z .args .g .fair) (arenaOf (z .args .g) (now (z .args .transitions)) (now (z .args .accepting))) (now (z .args .ranks)) (k / z .args .g .inputs) (k % z .args .g .inputs) v in (
+      omega arith,
+      fill-below P (now (z .args .system)) (l .system) (l .k) (b .result) fits (l .inv .1) (b .ensures),
+      fill-rest P (now (z .args .system)) (l .system) (l .k) (b .result) fits (l .inv .2),
+      length-set (l .system) (l .k) (b .result) ∙ l .inv .3,
+    ))
+    (λ c. c .before .loop .inv .3)
+    (λ c.
+    let l = c .before .loop in
+    record { byte = λ k h. l .inv .1 k (omega arith); beyond = λ k h. l .inv .2 k (omega arith); size = l .inv .3 }))

@@ -1,0 +1,75 @@
+-- The bytes of the two tables as the players' ranks allow them: what the functions that fill the tables promise each other.
+-- No promise of a call that 01 names rests on this file.
+-- Assumes nothing.
+use Prim.Native.Nat.{ℕ, _*_, _-_, _/_, _%_, _<_, _≤_}
+use mathlib.Core.Path.{_≡_}
+use mathlib.Core.Bool.{Bool, true, false, not}
+use mathlib.Core.List.{List}
+use lib.ListN.{length, getD}
+use Rattle.automaton.specs.Limits.{stateLimit}
+use Rattle.game.specs.Arena.{Arena, next}
+use Rattle.game.specs.Rank.{Safe, Falls}
+use Rattle.game.specs.Tables.{noMove}
+
+-- the largest rank that is allowed after a step from a state of rank `own`: a lower one at a judged input, and else no higher one where the ranks are steady
+abbrev pub limitOf : Bool → Bool → ℕ → ℕ
+limitOf steady true own = own - 1
+limitOf true false own = own
+limitOf false false own = 255
+
+-- state t has a rank, and one that is at most `limit`
+abbrev pub Below : List ℕ → ℕ → ℕ → Type 0
+Below r limit t = (0 < getD r t 0) × (getD r t 0 ≤ limit)
+
+-- b says whether it has
+pub record IsBelow (r : List ℕ) (limit t : ℕ) (b : Bool) : Type 0 where
+  pub inside : b ≡ true → Below r limit t
+  pub outside : b ≡ false → Below r limit t → ⊥
+
+-- output y enters a goal, or a state whose rank is at most `limit`
+abbrev pub GoodOutput : Arena → List ℕ → ℕ → ℕ → ℕ → ℕ → Type 0
+GoodOutput G r limit s x y = Safe G true (next G s x y) (Below r limit (next G s x y))
+
+-- some output does
+abbrev pub SomeOutput : Arena → List ℕ → ℕ → ℕ → ℕ → Type 0
+SomeOutput G r limit s x = (y : ℕ) × (y < G .outputs) × GoodOutput G r limit s x y
+
+-- every output avoids the goals and enters a state whose rank is at most `limit`
+abbrev pub EveryOutput : Arena → List ℕ → ℕ → ℕ → ℕ → Type 0
+EveryOutput G r limit s x = (y : ℕ) → y < G .outputs → Safe G false (next G s x y) (Below r limit (next G s x y))
+
+-- b says whether every output does
+pub record IsSafe (G : Arena) (r : List ℕ) (limit s x : ℕ) (b : Bool) : Type 0 where
+  pub safe : b ≡ true → EveryOutput G r limit s x
+  pub unsafe : b ≡ false → EveryOutput G r limit s x → ⊥
+
+-- the system's ranks allow output y for input x on state s
+abbrev pub AllowedOutput : Bool → Arena → List ℕ → ℕ → ℕ → ℕ → Type 0
+AllowedOutput fair G r s x y = (y < G .outputs) × Safe G true (next G s x y) (Falls G true fair r s x (next G s x y))
+
+-- the environment's ranks allow input x on state s
+abbrev pub AllowedInput : Bool → Arena → List ℕ → ℕ → ℕ → Type 0
+AllowedInput fair G r s x =
+    (x < G .inputs) × ((y : ℕ) → y < G .outputs → Safe G false (next G s x y) (Falls G false (not fair) r s x (next G s x y)))
+
+-- the system's byte for state s and input x
+pub record SystemByte (fair : Bool) (G : Arena) (r : List ℕ) (s x b : ℕ) : Type 0 where
+  pub none : getD r s 0 ≡ 0 → b ≡ noMove
+  pub allowed : 0 < getD r s 0 → AllowedOutput fair G r s x b
+
+-- the environment's byte for state s
+pub record EnvironmentByte (fair : Bool) (G : Arena) (r : List ℕ) (s b : ℕ) : Type 0 where
+  pub none : getD r s 0 ≡ 0 → b ≡ noMove
+  pub allowed : 0 < getD r s 0 → AllowedInput fair G r s b
+
+-- the system's table in a buffer that held σ₀
+pub record SystemFilled (fair : Bool) (G : Arena) (r σ₀ σ : List ℕ) : Type 0 where
+  pub byte : (k : ℕ) → k < stateLimit * G .inputs → SystemByte fair G r (k / G .inputs) (k % G .inputs) (getD σ k 0)
+  pub beyond : (k : ℕ) → stateLimit * G .inputs ≤ k → getD σ k 0 ≡ getD σ₀ k 0
+  pub size : length σ ≡ length σ₀
+
+-- the environment's table in a buffer that held τ₀
+pub record EnvironmentFilled (fair : Bool) (G : Arena) (r τ₀ τ : List ℕ) : Type 0 where
+  pub byte : (s : ℕ) → s < stateLimit → EnvironmentByte fair G r s (getD τ s 0)
+  pub beyond : (k : ℕ) → stateLimit ≤ k → getD τ k 0 ≡ getD τ₀ k 0
+  pub size : length τ ≡ length τ₀

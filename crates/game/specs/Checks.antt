@@ -1,0 +1,18 @@
+-- The sizes that the calls' own functions may rely on once i, o and n are in range.
+-- No promise of a call that 01 names rests on this file.
+-- Assumes nothing.
+use Prim.Native.Nat.{ℕ, _^_, _<_, _≤_}
+use mathlib.Core.Bool.{Bool}
+use Rattle.automaton.specs.Limits.{stateLimit}
+use Rattle.game.specs.declared.arena.Game.{Game}
+
+-- the game of n states, i inputs and o outputs
+abbrev pub gameOf : Bool → ℕ → ℕ → ℕ → ℕ → Game
+gameOf fair mask n i o = record { fair = fair; mask = mask; states = n; inputs = 2 ^ i; outputs = 2 ^ o }
+
+-- its numbers are in range
+pub record InRange (g : Game) : Type 0 where
+  pub states-fit : g .states ≤ stateLimit
+  pub inputs-fit : g .inputs ≤ 16
+  pub outputs-fit : g .outputs ≤ 16
+  pub inputs-some : 0 < g .inputs

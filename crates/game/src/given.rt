@@ -1,0 +1,151 @@
+// The call for a given automaton.
+ghost use mathlib.Core.Path.{_≡_};
+ghost use mathlib.Core.Bool.{not};
+ghost use Prim.Native.Nat.{_/_, _^_, _≤_};
+ghost use mathlib.Core.List.{[]};
+ghost use lib.Dec.{eqb};
+ghost use Rattle.automaton.specs.Trial.{firstOver};
+ghost use Rattle.game.specs.Arena.{arena, isFair};
+ghost use Rattle.game.specs.Rank.{arenaOf};
+ghost use Rattle.game.specs.Checks.{InRange};
+ghost use Rattle.game.specs.Given.{shortTables, laterRefusal, givenRefusal, GivenSolved};
+use crate::answer::Answer;
+use crate::answer::Mode;
+use crate::arena::Game;
+use crate::arena::wide;
+use crate::checks::bad_alphabet;
+use crate::checks::bad_count;
+use crate::checks::game_of;
+use crate::checks::short_read;
+use crate::tables::decide;
+use reader::refusal::Refusal;
+
+// Whether a table is too short for 128 states.
+fn short_tables(g: Game, system: &[u8], environment: &[u8]) -> bool
+    requires { ⌜ InRange g ⌝ }
+    ensures { λ r. ⌜ r ≡ shortTables (arenaOf g [] []) (now (system .entry)) (now (environment .entry)) ⌝ }
+{
+    if system.len() < 128 * g.inputs {
+        return true;
+    }
+    environment.len() < 128
+}
+
+// The index of the first byte that is `bound` or more, or the number of bytes.
+fn first_over(bytes: &[u8], bound: usize) -> usize
+    ensures { λ r. ⌜ r ≡ firstOver bound (now (bytes .entry)) ⌝ }
+{
+    let count = bytes.len();
+    let mut k: usize = 0;
+    while k < count {
+        if bound <= wide(bytes[k]) {
+            return k;
+        }
+        k += 1;
+    }
+    k
+}
+
+// Whether the mask has a bit from place `inputs` up.
+fn bad_mask(mask: u16, inputs: usize) -> bool
+    requires { ⌜ inputs ≤ 16 ⌝ }
+    ensures { λ r. ⌜ r ≡ not (eqb (mask / 2 ^ inputs) 0) ⌝ }
+{
+    let wider = mask as u32;
+    wider >> inputs != 0
+}
+
+// The refusal that comes first once i, o and n are in range.
+fn later_refusal(
+    g: Game,
+    transitions: &[u8],
+    accepting: &[u8],
+    start: usize,
+    system: &[u8],
+    environment: &[u8],
+) -> Refusal
+    requires { ⌜ InRange g ⌝ }
+    ensures { λ r. ⌜ r ≡ laterRefusal start (arenaOf g (now (transitions .entry)) (now (accepting .entry))) (now (system .entry)) (now (environment .entry)) ⌝ }
+{
+    if short_read(g, transitions, accepting) {
+        return Refusal::Buffer;
+    }
+    if short_tables(g, system, environment) {
+        return Refusal::Buffer;
+    }
+    let states = g.states;
+    if states <= start {
+        return Refusal::State;
+    }
+    let inputs = g.inputs;
+    let letters = inputs * g.outputs;
+    let count = states * letters;
+    let k = first_over(&transitions[..count], states);
+    if k < count {
+        return Refusal::Move(k);
+    }
+    if bad_mask(g.mask, inputs) {
+        return Refusal::Value(0);
+    }
+    Refusal::Nothing
+}
+
+// The refusal that comes first.
+fn given_refusal(
+    i: usize,
+    o: usize,
+    n: usize,
+    transitions: &[u8],
+    accepting: &[u8],
+    start: usize,
+    mask: u16,
+    system: &[u8],
+    environment: &[u8],
+) -> Refusal
+    ensures { λ r. ⌜ r ≡ givenRefusal i o start (arena i o n (now (transitions .entry)) (now (accepting .entry)) mask) (now (system .entry)) (now (environment .entry)) ⌝ }
+{
+    if bad_alphabet(i, o) {
+        return Refusal::Alphabet;
+    }
+    if bad_count(n) {
+        return Refusal::GivenCount;
+    }
+    let g = game_of(Mode::Fair, mask, n, i, o);
+    later_refusal(g, transitions, accepting, start, system, environment)
+}
+
+// Solves the game on a given automaton: refuses what is out of range, or fills both tables and says whether the system wins from the start.
+pub fn solve_given(
+    i: usize,
+    o: usize,
+    mode: Mode,
+    n: usize,
+    transitions: &[u8],
+    accepting: &[u8],
+    start: usize,
+    mask: u16,
+    system: &mut [u8],
+    environment: &mut [u8],
+) -> Answer
+    ensures { λ r. ⌜ GivenSolved (isFair mode) i o start (arena i o n (now (transitions .entry)) (now (accepting .entry)) mask) (now (system .entry)) (now (environment .entry)) (now (system .exit)) (now (environment .exit)) r ⌝ }
+{
+    let refusal = given_refusal(
+        i,
+        o,
+        n,
+        transitions,
+        accepting,
+        start,
+        mask,
+        system,
+        environment,
+    );
+    let Refusal::Nothing = refusal else {
+        return Answer::Refused(refusal);
+    };
+    let g = game_of(mode, mask, n, i, o);
+    if decide(g, transitions, accepting, start, system, environment) {
+        return Answer::Can(n);
+    }
+    Answer::Cannot(n)
+}

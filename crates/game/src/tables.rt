@@ -1,0 +1,268 @@
+// The two tables: for each state that a player wins, the lowest output or input that its ranks allow.
+ghost use mathlib.Core.Path.{_≡_};
+ghost use mathlib.Core.Bool.{Bool, true, false, not};
+ghost use Prim.Native.Nat.{ℕ, _*_, _<_, _≤_};
+ghost use lib.ListN.{length, getD};
+ghost use Rattle.game.specs.Arena.{Arena};
+ghost use Rattle.game.specs.Rank.{arenaOf, Valid, Ranked, Ranking};
+ghost use Rattle.game.specs.Tables.{Tables, Verdict};
+ghost use Rattle.game.specs.Bytes.{
+  limitOf,
+  IsBelow,
+  GoodOutput,
+  SomeOutput,
+  IsSafe,
+  SystemByte,
+  EnvironmentByte,
+  SystemFilled,
+  EnvironmentFilled,
+};
+use crate::arena::Game;
+use crate::arena::enters;
+use crate::arena::has_condition;
+use crate::solve::solve;
+
+// The largest rank that is allowed after a step from a state of rank `own`.
+fn limit(steady: bool, judged: bool, own: u8) -> u8
+    requires { ⌜ 0 < own ⌝ }
+    ensures { λ r. ⌜ r ≡ limitOf steady judged own ⌝ }
+{
+    if judged {
+        return own - 1;
+    }
+    if steady {
+        return own;
+    }
+    255
+}
+
+// Whether state t has a rank, and one that is at most `most`.
+fn is_below(ranks: &[u8; 128], most: u8, t: usize) -> bool
+    requires { ⌜ t < 128 ⌝ }
+    ensures { λ r. ⌜ IsBelow (now (ranks .entry)) most t r ⌝ }
+{
+    let rank = ranks[t];
+    if rank == 0 {
+        return false;
+    }
+    rank <= most
+}
+
+// The first output that enters a goal or a state whose rank is at most `most`.
+fn first_output(
+    g: Game,
+    transitions: &[u8],
+    accepting: &[u8],
+    ranks: &[u8; 128],
+    most: u8,
+    s: usize,
+    x: usize,
+) -> usize
+    requires { ⌜ Valid (arenaOf g (now transitions) (now accepting)) ⌝ }
+    requires { ⌜ (s < g .states) × (x < g .inputs) ⌝ }
+    requires { ⌜ SomeOutput (arenaOf g (now transitions) (now accepting)) (now ranks) most s x ⌝ }
+    ensures { λ r. ⌜ (r < g .outputs) × GoodOutput (arenaOf g (now (transitions .entry)) (now (accepting .entry))) (now (ranks .entry)) most s x r ⌝ }
+{
+    let outputs = g.outputs;
+    let mut y: usize = 0;
+    while y < outputs {
+        let t = enters(g, transitions, s, x, y);
+        if accepting[t] != 0 {
+            return y;
+        }
+        if is_below(ranks, most, t) {
+            return y;
+        }
+        y += 1;
+    }
+    y
+}
+
+// Whether every output for input x avoids the goals and enters a state whose rank is at most `most`.
+fn is_safe(
+    g: Game,
+    transitions: &[u8],
+    accepting: &[u8],
+    ranks: &[u8; 128],
+    most: u8,
+    s: usize,
+    x: usize,
+) -> bool
+    requires { ⌜ Valid (arenaOf g (now transitions) (now accepting)) ⌝ }
+    requires { ⌜ (s < g .states) × (x < g .inputs) ⌝ }
+    ensures { λ r. ⌜ IsSafe (arenaOf g (now (transitions .entry)) (now (accepting .entry))) (now (ranks .entry)) most s x r ⌝ }
+{
+    let outputs = g.outputs;
+    let mut y: usize = 0;
+    while y < outputs {
+        let t = enters(g, transitions, s, x, y);
+        if accepting[t] != 0 {
+            return false;
+        }
+        if !is_below(ranks, most, t) {
+            return false;
+        }
+        y += 1;
+    }
+    true
+}
+
+// The system's byte for state s and input x: 255 where the system does not win from s.
+fn system_byte(
+    g: Game,
+    transitions: &[u8],
+    accepting: &[u8],
+    ranks: &[u8; 128],
+    s: usize,
+    x: usize,
+) -> u8
+    requires { ⌜ Valid (arenaOf g (now transitions) (now accepting)) ⌝ }
+    requires { ⌜ Ranked (arenaOf g (now transitions) (now accepting)) true (g .fair) (now ranks) ⌝ }
+    requires { ⌜ (s < 128) × (x < g .inputs) ⌝ }
+    ensures { λ r. ⌜ SystemByte (g .fair) (arenaOf g (now (transitions .entry)) (now (accepting .entry))) (now (ranks .entry)) s x r ⌝ }
+{
+    let own = ranks[s];
+    if own == 0 {
+        return 255;
+    }
+    let judged = has_condition(g.mask, x);
+    let most = limit(g.fair, judged, own);
+    let y = first_output(g, transitions, accepting, ranks, most, s, x);
+    y as u8
+}
+
+// The first input for which every output is safe for the environment.
+fn first_input(
+    g: Game,
+    transitions: &[u8],
+    accepting: &[u8],
+    ranks: &[u8; 128],
+    own: u8,
+    s: usize,
+) -> usize
+    requires { ⌜ Valid (arenaOf g (now transitions) (now accepting)) ⌝ }
+    requires { ⌜ Ranked (arenaOf g (now transitions) (now accepting)) false (not (g .fair)) (now ranks) ⌝ }
+    requires { ⌜ (s < g .states) × (0 < own) × (own ≡ getD (now ranks) s 0) ⌝ }
+    ensures { λ r. ⌜ EnvironmentByte (g .fair) (arenaOf g (now (transitions .entry)) (now (accepting .entry))) (now (ranks .entry)) s r ⌝ }
+{
+    let inputs = g.inputs;
+    let steady = !g.fair;
+    let mut x: usize = 0;
+    while x < inputs {
+        let judged = !has_condition(g.mask, x);
+        let most = limit(steady, judged, own);
+        if is_safe(g, transitions, accepting, ranks, most, s, x) {
+            return x;
+        }
+        x += 1;
+    }
+    x
+}
+
+// The environment's byte for state s: 255 where the environment does not win from s.
+fn environment_byte(
+    g: Game,
+    transitions: &[u8],
+    accepting: &[u8],
+    ranks: &[u8; 128],
+    s: usize,
+) -> u8
+    requires { ⌜ Valid (arenaOf g (now transitions) (now accepting)) ⌝ }
+    requires { ⌜ Ranked (arenaOf g (now transitions) (now accepting)) false (not (g .fair)) (now ranks) ⌝ }
+    requires { ⌜ s < 128 ⌝ }
+    ensures { λ r. ⌜ EnvironmentByte (g .fair) (arenaOf g (now (transitions .entry)) (now (accepting .entry))) (now (ranks .entry)) s r ⌝ }
+{
+    let own = ranks[s];
+    if own == 0 {
+        return 255;
+    }
+    let x = first_input(g, transitions, accepting, ranks, own, s);
+    x as u8
+}
+
+// Fills the system's table for 128 states.
+fn fill_system(g: Game, transitions: &[u8], accepting: &[u8], ranks: &[u8; 128], system: &mut [u8])
+    requires { ⌜ Valid (arenaOf g (now transitions) (now accepting)) ⌝ }
+    requires { ⌜ Ranked (arenaOf g (now transitions) (now accepting)) true (g .fair) (now ranks) ⌝ }
+    requires { ⌜ (0 < g .inputs) × (128 * g .inputs ≤ length (now system)) ⌝ }
+    ensures { λ _. ⌜ SystemFilled (g .fair) (arenaOf g (now (transitions .entry)) (now (accepting .entry))) (now (ranks .entry)) (now (system .entry)) (now (system .exit)) ⌝ }
+{
+    let inputs = g.inputs;
+    let total = 128 * inputs;
+    let mut k: usize = 0;
+    while k < total {
+        let s = k / inputs;
+        let x = k % inputs;
+        system[k] = system_byte(g, transitions, accepting, ranks, s, x);
+        k += 1;
+    }
+}
+
+// Fills the environment's table for 128 states.
+fn fill_environment(
+    g: Game,
+    transitions: &[u8],
+    accepting: &[u8],
+    ranks: &[u8; 128],
+    environment: &mut [u8],
+)
+    requires { ⌜ Valid (arenaOf g (now transitions) (now accepting)) ⌝ }
+    requires { ⌜ Ranked (arenaOf g (now transitions) (now accepting)) false (not (g .fair)) (now ranks) ⌝ }
+    requires { ⌜ 128 ≤ length (now environment) ⌝ }
+    ensures { λ _. ⌜ EnvironmentFilled (g .fair) (arenaOf g (now (transitions .entry)) (now (accepting .entry))) (now (ranks .entry)) (now (environment .entry)) (now (environment .exit)) ⌝ }
+{
+    let mut s: usize = 0;
+    while s < 128 {
+        environment[s] = environment_byte(g, transitions, accepting, ranks, s);
+        s += 1;
+    }
+}
+
+// Fills both tables.
+fn fill(
+    g: Game,
+    transitions: &[u8],
+    accepting: &[u8],
+    system_ranks: &[u8; 128],
+    environment_ranks: &[u8; 128],
+    system: &mut [u8],
+    environment: &mut [u8],
+)
+    requires { ⌜ Valid (arenaOf g (now transitions) (now accepting)) ⌝ }
+    requires { ⌜ Ranking (g .fair) (arenaOf g (now transitions) (now accepting)) (now «system_ranks») (now «environment_ranks») ⌝ }
+    requires { ⌜ (0 < g .inputs) × (128 * g .inputs ≤ length (now system)) × (128 ≤ length (now environment)) ⌝ }
+    ensures { λ _. ⌜ Tables (g .fair) (arenaOf g (now (transitions .entry)) (now (accepting .entry))) (now (system .entry)) (now (environment .entry)) (now (system .exit)) (now (environment .exit)) ⌝ }
+{
+    fill_system(g, transitions, accepting, system_ranks, system);
+    fill_environment(g, transitions, accepting, environment_ranks, environment);
+}
+
+// Solves the game, fills both tables and says whether the system wins from the start.
+pub(crate) fn decide(
+    g: Game,
+    transitions: &[u8],
+    accepting: &[u8],
+    start: usize,
+    system: &mut [u8],
+    environment: &mut [u8],
+) -> bool
+    requires { ⌜ Valid (arenaOf g (now transitions) (now accepting)) ⌝ }
+    requires { ⌜ start < g .states ⌝ }
+    requires { ⌜ (0 < g .inputs) × (128 * g .inputs ≤ length (now system)) × (128 ≤ length (now environment)) ⌝ }
+    ensures { λ r. ⌜ Tables (g .fair) (arenaOf g (now (transitions .entry)) (now (accepting .entry))) (now (system .entry)) (now (environment .entry)) (now (system .exit)) (now (environment .exit)) ⌝ }
+    ensures { λ r. ⌜ Verdict (g .fair) (arenaOf g (now (transitions .entry)) (now (accepting .entry))) (now (system .exit)) (now (environment .exit)) start r ⌝ }
+{
+    let ranks = solve(g, transitions, accepting);
+    let system_ranks = ranks.system;
+    let environment_ranks = ranks.environment;
+    fill(
+        g,
+        transitions,
+        accepting,
+        &system_ranks,
+        &environment_ranks,
+        system,
+        environment,
+    );
+    environment[start] == 255
+}

@@ -1,14 +1,13 @@
 -- The refusals of the call for a given automaton: which test decides, and what is known where none does.
 -- Assumes nothing.
-use Prim.Native.Nat.{ℕ, zero, suc, _+_, _*_, _<_, _≤_}
+use Prim.Native.Nat.{ℕ, _+_, _*_, _<_, _≤_}
 use mathlib.Core.Path.{_≡_, refl, ap, subst}
 use mathlib.Core.Bool.{Bool, true, false, cond, _||_}
-use mathlib.Core.List.{List, [], _∷_}
-use native.Mathlib.Numerals.{add-one}
+use mathlib.Core.List.{List}
 use native.Mathlib.Omega.{arith}
 use lib.Dec.{ltb, leb}
-use lib.ListN.{length, getD, take, drop, drop-of-length-le}
-use lib.Seq.{drop-cons, getD-take, length-take-le}
+use lib.ListN.{length, getD, take}
+use lib.Seq.{getD-take, length-take-le}
 use borrow.Author.Tests.{le-leb, lt-leb, leb-false, lt-ltb, le-ltb, ltb-false}
 use Rattle.reader.specs.declared.refusal.Refusal.{Refusal}
 use Rattle.reader.specs.declared.refusal.Refusal.the-variants.{Nothing, Alphabet, Buffer, GivenCount, Move, State, Value}
@@ -16,6 +15,7 @@ use Rattle.reader.specs.Refusal.{numberOf}
 use Rattle.automaton.specs.Limits.{stateLimit}
 use Rattle.automaton.specs.Alphabet.{badAlphabet}
 use Rattle.automaton.specs.Trial.{firstOver}
+use Rattle.automaton.proofs.FirstOverLaws.{none-over, letter-at}
 use Rattle.game.specs.declared.answer.Answer.the-variants.{Refused}
 use Rattle.game.specs.Arena.{Arena, arena}
 use Rattle.game.specs.Rank.{Valid}
@@ -23,35 +23,6 @@ use Rattle.game.specs.Tables.{Tables, Verdict}
 use Rattle.game.specs.Given.{badCount, moveCount, shortRead, shortTables, badMask, laterRefusal, givenRefusal, verdictOf, Solved}
 use Rattle.reader.proofs.BoolLaws.{on, or-left, or-right}
 use Rattle.game.proofs.CheckLaws.{in-range, transitions-long, accepting-long}
-
--- the scan for the first byte that is too large, after k bytes
-module _ (bound : ℕ) (l : List ℕ) (k : ℕ) (scanned : k + firstOver bound (drop k l) ≡ firstOver bound l) where
-  pub over-found : k < length l → bound ≤ getD l k 0 → k ≡ firstOver bound l
-  unfolding firstOver
-  over-found h b =
-      let e : firstOver bound (drop k l) ≡ 0 = rw (drop-cons l k 0 h, le-leb bound (getD l k 0) b) in
-      omega (arith, e, scanned)
-
-  pub over-next : k < length l → getD l k 0 < bound → k + 1 + firstOver bound (drop (k + 1) l) ≡ firstOver bound l
-  unfolding firstOver
-  over-next h b =
-      let e : firstOver bound (drop k l) ≡ suc (firstOver bound (drop (suc k) l)) = rw (drop-cons l k 0 h, lt-leb bound (getD l k 0) b) in
-      rw add-one (omega (arith, e, scanned))
-
-  pub over-end : length l ≤ k → k ≡ firstOver bound l
-  unfolding firstOver
-  over-end h = let e : firstOver bound (drop k l) ≡ 0 = rw (drop-of-length-le l h) in omega (arith, e, scanned)
-
--- where the scan runs to the end, every byte is below the bound
-over-none : (bound : ℕ) (l : List ℕ) → length l ≤ firstOver bound l → (k : ℕ) → k < length l → getD l k 0 < bound
-unfolding firstOver
-over-none bound [] h k lt = absurd (let z : ⊥ = omega arith in z)
-over-none bound (a ∷ l) h zero lt =
-    on (leb bound a) (λ e. let z : ⊥ = omega (arith, rw e at h) in absurd z) (λ e. leb-false bound a e)
-over-none bound (a ∷ l) h (suc k) lt =
-    on (leb bound a)
-    (λ e. let z : ⊥ = omega (arith, rw e at h) in absurd z)
-    (λ e. over-none bound l (let g : length l ≤ firstOver bound l = omega (arith, rw e at h) in g) k (let g : k < length l = omega arith in g))
 
 -- the test that decides, in the order 3, 12, 11, 13
 module _ (start : ℕ) (G : Arena) (σ τ : List ℕ) where
@@ -136,7 +107,7 @@ later-accepted start G σ τ e =
       tables = or-right (shortRead G) (shortTables G σ τ) (short .0);
       start-fits = leb-false (G .states) start (state .0);
       closed = λ k h. subst (λ (v : ℕ). v < G .states) (getD-take (moveCount G) (G .transitions) k 0 h)
-          (over-none (G .states) T (ltb-false (firstOver (G .states) T) (length T) (move .0)) k (let q : k < length T = omega arith in q));
+          (letter-at (G .states) T (none-over (G .states) T (ltb-false (firstOver (G .states) T) (length T) (move .0))) k (let q : k < length T = omega arith in q));
     }
 
 pub accepted : (i o start n : ℕ) (transitions flags : List ℕ) (mask : ℕ) (σ τ : List ℕ) → givenRefusal i o start (arena i o n transitions flags mask) σ τ ≡ Nothing

@@ -25,7 +25,8 @@ use Rattle.game.specs.Rank.{Valid}
 use Rattle.game.specs.Rule.{Satisfied, Can, Cannot}
 use Rattle.reader.proofs.BoolLaws.{on, clash, or-cases, or-true}
 use Rattle.game.proofs.IndexLaws.{letter-below}
-use Rattle.game.proofs.CheckLaws.{small-power, few-inputs, few-outputs}
+use Rattle.automaton.proofs.AlphabetLaws.{inputs-fit, outputs-fit}
+use Rattle.game.proofs.CheckLaws.{small-power}
 
 -- a beginning of a play
 module _ (G : Arena) where
@@ -139,8 +140,8 @@ module _ (φ : Formula) (i o n : ℕ) (transitions flags : List ℕ) (mask : ℕ
       record {
         moving = record {
           states-fit = few;
-          inputs-fit = small-power i (few-inputs i o a);
-          outputs-fit = small-power o (few-outputs i o a);
+          inputs-fit = small-power i (inputs-fit i o a);
+          outputs-fit = small-power o (outputs-fit i o a);
           long = omega (arith, mul-le-mul-right L few, ap (λ (m : ℕ). 128 * m) (pow-add 2 i o));
           closed = λ k h. subst (λ (j : ℕ). getD transitions j 0 < n) (div-add-mod' k L) (on-product .moved (k / L) (k % L) (div-lt-iff-lt-mul positive .1 h) (mod-lt k positive) .0);
         };

@@ -1,24 +1,14 @@
 // The tests of numbers and buffers that the calls share.
 ghost use mathlib.Core.Path.{_≡_};
 ghost use mathlib.Core.Bool.{false};
-ghost use Prim.Native.Nat.{_<_, _^_};
 ghost use Rattle.automaton.specs.Alphabet.{badAlphabet};
 ghost use Rattle.game.specs.Arena.{isFair};
 ghost use Rattle.game.specs.Rank.{arenaOf};
 ghost use Rattle.game.specs.Checks.{gameOf, InRange};
 ghost use Rattle.game.specs.Given.{badCount, shortRead};
+use automaton::alphabet::power;
 use crate::answer::Mode;
 use crate::arena::Game;
-
-// Whether there are more than 4 inputs or outputs.
-pub(crate) fn bad_alphabet(i: usize, o: usize) -> bool
-    ensures { λ r. ⌜ r ≡ badAlphabet i o ⌝ }
-{
-    if 4 < i {
-        return true;
-    }
-    4 < o
-}
 
 // Whether there are no states or more than 128.
 pub(crate) fn bad_count(n: usize) -> bool
@@ -28,14 +18,6 @@ pub(crate) fn bad_count(n: usize) -> bool
         return true;
     }
     128 < n
-}
-
-// 2 to the power k.
-fn power(k: usize) -> usize
-    requires { ⌜ k < 5 ⌝ }
-    ensures { λ r. ⌜ r ≡ 2 ^ k ⌝ }
-{
-    1 << k
 }
 
 // Whether the mode is fair.

@@ -12,10 +12,10 @@ ghost use Rattle.game.specs.Follower.{shortStrategy, movedBy, laterFollo
 use crate::answer::Mode;
 use crate::arena::Game;
 use crate::arena::wide;
-use crate::checks::bad_alphabet;
 use crate::checks::bad_count;
 use crate::checks::game_of;
 use crate::checks::short_read;
+use automaton::alphabet::bad_alphabet;
 use reader::refusal::Refusal;
 
 // A place in a play: the state, and whether a goal was entered.

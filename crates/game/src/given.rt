@@ -4,7 +4,6 @@ ghost use mathlib.Core.Bool.{not};
 ghost use Prim.Native.Nat.{_/_, _^_, _≤_};
 ghost use mathlib.Core.List.{[]};
 ghost use lib.Dec.{eqb};
-ghost use Rattle.automaton.specs.Trial.{firstOver};
 ghost use Rattle.game.specs.Arena.{arena, isFair};
 ghost use Rattle.game.specs.Rank.{arenaOf};
 ghost use Rattle.game.specs.Checks.{InRange};
@@ -12,12 +11,11 @@ ghost use Rattle.game.specs.Given.{shortTables, laterRefusal, givenRefus
 use crate::answer::Answer;
 use crate::answer::Mode;
 use crate::arena::Game;
-use crate::arena::wide;
-use crate::checks::bad_alphabet;
 use crate::checks::bad_count;
 use crate::checks::game_of;
 use crate::checks::short_read;
 use crate::tables::decide;
+use automaton::alphabet::{bad_alphabet, first_over};
 use reader::refusal::Refusal;
 
 // Whether a table is too short for 128 states.
@@ -29,21 +27,6 @@ fn short_tables(g: Game, system: &[u8], environment: &[u8]) -> bool
         return true;
     }
     environment.len() < 128
-}
-
-// The index of the first byte that is `bound` or more, or the number of bytes.
-fn first_over(bytes: &[u8], bound: usize) -> usize
-    ensures { λ r. ⌜ r ≡ firstOver bound (now (bytes .entry)) ⌝ }
-{
-    let count = bytes.len();
-    let mut k: usize = 0;
-    while k < count {
-        if bound <= wide(bytes[k]) {
-            return k;
-        }
-        k += 1;
-    }
-    k
 }
 
 // Whether the mask has a bit from place `inputs` up.

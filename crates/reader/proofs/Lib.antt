@@ -10,6 +10,7 @@ mod InfixLaws
 mod PrefixLaws
 mod ReadingLaws
 pub mod Unambiguous
+mod Samples
 pub mod BoolLaws
 pub mod RefusalLaws
 pub mod StaticLaws

@@ -4,7 +4,7 @@ use mathlib.Core.Path.{_≡_, refl, sym, ap, subst, _∙_}
 use mathlib.Core.Logic.{_⊎_, inl, inr, ⊎-elim}
 use mathlib.Core.Bool.{Bool, true, false, cond, true≢false}
 use mathlib.Core.List.{List, [], _∷_}
-use Prim.Native.Nat.{ℕ, zero, suc, _+_, _-_, _≤_, _<_}
+use Prim.Native.Nat.{ℕ, suc, _+_, _-_, _≤_, _<_}
 use native.Mathlib.Numerals.{add-one}
 use native.Mathlib.Omega.{arith}
 use lib.Dec.{eqb, leb}
@@ -13,9 +13,9 @@ use lib.Seq.{drop-cons}
 use borrow.Author.Tests.{eqb-true, eq-eqb, ne-eqb}
 use Rattle.reader.specs.declared.marks.Kind.{Kind}
 use Rattle.reader.specs.declared.marks.Kind.the-variants.{Operand, Prefix, Infix, Open, Close, Other}
-use Rattle.reader.specs.Formula.{Unary, neg, next, weak, eventually, always, Binary, until, release, conj, disj, impl, Formula, constant, name, size, withUnary, withBinary, operators}
+use Rattle.reader.specs.Formula.{Unary, neg, next, weak, eventually, always, Binary, until, release, conj, disj, impl, constant, name, size, withUnary, withBinary, operators}
 use Rattle.reader.specs.Marks.{amongOf, kindOf, isTemporal, allowedBy, kindIn, operandOf, unaryOf, binaryOf}
-use Rattle.reader.specs.Nodes.{constantCode, nameCode, unaryCode, binaryCode, wordOf, code}
+use Rattle.reader.specs.Nodes.{wordOf, code}
 use Rattle.reader.specs.Words.{operandCode, operandArgument, nodeOf}
 use Rattle.reader.specs.Counts.{tick}
 
@@ -99,9 +99,24 @@ unfolding kindOf tick isTemporal amongOf unaryOf binaryOf
 kind-facts b =
     choose (KindFacts b) (amongOf b operandBytes) Operand _
     (λ e. among-all OperandByte b operandBytes e (
-      constant-byte 48 (omega arith) (omega arith), (constant-byte 49 (omega arith) (omega arith),
-      (input-byte 97 (omega arith) (omega arith), (input-byte 98 (omega arith) (omega arith), (input-byte 99 (omega arith) (omega arith), (input-byte 100 (omega arith) (omega arith),
-      (output-byte 112 (omega arith) (omega arith), (output-byte 113 (omega arith) (omega arith), (output-byte 114 (omega arith) (omega arith), (output-byte 115 (omega arith) (omega arith), tt)))))))))))
+      constant-byte 48 (omega arith) (omega arith),
+      (
+        constant-byte 49 (omega arith) (omega arith),
+        (
+          input-byte 97 (omega arith) (omega arith),
+          (
+            input-byte 98 (omega arith) (omega arith),
+            (
+              input-byte 99 (omega arith) (omega arith),
+              (
+                input-byte 100 (omega arith) (omega arith),
+                (output-byte 112 (omega arith) (omega arith), (output-byte 113 (omega arith) (omega arith), (output-byte 114 (omega arith) (omega arith), (output-byte 115 (omega arith) (omega arith), tt)))),
+              ),
+            ),
+          ),
+        ),
+      ),
+    ))
     (choose (KindFacts b) (amongOf b prefixBytes) Prefix _
     (λ e. among-all (λ (x : ℕ). tick x ≡ withUnary (unaryOf x) 0) b prefixBytes e (refl, (refl, (refl, (refl, (refl, tt))))))
     (choose (KindFacts b) (amongOf b untilBytes) (Infix 1) _

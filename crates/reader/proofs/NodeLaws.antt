@@ -26,6 +26,23 @@ size-pos (name j) = omega arith
 size-pos (unary u φ) = omega arith
 size-pos (binary b φ ψ) = omega arith
 
+-- the counts of a formula that is an operator over others
+pub size-binary : (b : Binary) (α β φ : Formula) → φ ≡ binary b α β → size φ ≡ size α + size β + 1
+unfolding size
+size-binary b α β φ e = ap size e
+
+pub operators-binary : (b : Binary) (α β φ : Formula) → φ ≡ binary b α β → operators φ ≡ operators α + withBinary b (operators β)
+unfolding operators
+operators-binary b α β φ e = ap operators e
+
+pub size-unary : (u : Unary) (α φ : Formula) → φ ≡ unary u α → size φ ≡ size α + 1
+unfolding size
+size-unary u α φ e = ap size e
+
+pub operators-unary : (u : Unary) (α φ : Formula) → φ ≡ unary u α → operators φ ≡ withUnary u (operators α)
+unfolding operators
+operators-unary u α φ e = ap operators e
+
 -- a formula has as many words as nodes
 pub code-length : (φ : Formula) (n k : ℕ) → length (code n k φ) ≡ size φ
 unfolding code size

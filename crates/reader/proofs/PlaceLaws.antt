@@ -4,10 +4,10 @@ use mathlib.Core.Path.{_≡_, refl, sym, ap, subst, _∙_}
 use mathlib.Core.Logic.{⊎-elim}
 use mathlib.Core.Bool.{Bool, true, false}
 use mathlib.Core.List.{List, [], _∷_, _++_, append-assoc, append-nil}
-use Prim.Native.Nat.{ℕ, zero, suc, _+_, _≤_, _<_}
+use Prim.Native.Nat.{ℕ, zero, suc, _<_}
 use native.Mathlib.Nat.{eq-or-lt-of-le, le-of-suc-le-suc, not-suc-le-zero}
 use native.Mathlib.Omega.{arith}
-use lib.ListN.{length, take}
+use lib.ListN.{take}
 use Rattle.reader.specs.declared.marks.Kind.{Kind}
 use Rattle.reader.specs.declared.marks.Kind.the-variants.{Operand, Prefix, Infix, Open, Close, Other}
 use Rattle.reader.specs.declared.scan.Step.{Step}
@@ -18,33 +18,35 @@ use Rattle.reader.specs.Formula.{Formula}
 use Rattle.reader.specs.Grammar.{marks, Derives, operand, prefix, parens, lower, infixed, Reads}
 use Rattle.reader.specs.Place.{Begins, IsPlace}
 use Rattle.reader.specs.Scan.{markStep, scanOf}
+use Rattle.reader.proofs.MarkLaws.{InfixLevel}
 use Rattle.reader.proofs.ScanLaws.{on, stuck, marks-append, run, run-append, run-whole, run-stop}
 
--- an infix mark's level is 1 to 4
+-- every infix mark has a level
 abbrev pub Levels : (ℕ → Kind) → Type 0
-Levels kind = (b l : ℕ) → kind b ≡ Infix l → (m : ℕ) × (l ≡ suc m) × (m < 4)
+Levels kind = (b l : ℕ) → kind b ≡ Infix l → InfixLevel l
 
--- what closes d parentheses, after an operand or with one expected
+-- what closes d parentheses
 closers : ℕ → List ℕ
 closers zero = []
 closers (suc d) = 41 ∷ closers d
 
-rest : Bool → ℕ → List ℕ
-rest true d = 48 ∷ closers d
-rest false d = closers d
+-- what completes a text with d parentheses open: `0` first where an operand is due
+completion : Bool → ℕ → List ℕ
+completion true d = 48 ∷ closers d
+completion false d = closers d
 
 marks-closers : (d : ℕ) → marks (closers d) ≡ closers d
 unfolding marks closers
 marks-closers zero = refl
 marks-closers (suc d) = ap (λ (r : List ℕ). 41 ∷ r) (marks-closers d)
 
-marks-rest : (w : Bool) (d : ℕ) → marks (rest w d) ≡ rest w d
-unfolding marks rest
-marks-rest true d = ap (λ (r : List ℕ). 48 ∷ r) (marks-closers d)
-marks-rest false d = marks-closers d
+marks-completion : (w : Bool) (d : ℕ) → marks (completion w d) ≡ completion w d
+unfolding marks completion
+marks-completion true d = ap (λ (r : List ℕ). 48 ∷ r) (marks-closers d)
+marks-completion false d = marks-closers d
 
 module _ (i : ℕ) (kind : ℕ → Kind) where
-  -- a derivation takes the run kind over its marks
+  -- a derivation takes the run over its marks, to the mode after an operand
   passes : {l : ℕ} {w : List ℕ} {φ : Formula} → Derives i kind l w φ → (rest : List ℕ) (d : ℕ) → run kind (w ++ rest) true d ≡ run kind rest false d
   unfolding run
   passes (operand k f) rest d = rw k
@@ -53,14 +55,16 @@ module _ (i : ℕ) (kind : ℕ → Kind) where
   passes (lower x) rest d = passes x rest d
   passes (infixed {b = b} {u = u} {v = v} k x y f) rest d = rw append-assoc (passes x ((b ∷ v) ++ rest) d ∙ rw k (passes y rest d))
 
+  -- what prefix marks bind is a formula of every level
   raise : (l : ℕ) {w : List ℕ} {φ : Formula} → Derives i kind 0 w φ → Derives i kind l w φ
   raise zero x = x
   raise (suc l) x = lower (raise l x)
 
+  -- the marks are some formula of the level
   abbrev Formulas : ℕ → List ℕ → Type 0
   Formulas l w = (φ : Formula) × Derives i kind l w φ
 
-  -- an infix mark and an operand after a text
+  -- a formula, an infix mark of its level or below and an operand are a formula again
   after : {l : ℕ} {w : List ℕ} {φ : Formula} → Derives i kind l w φ → {b m : ℕ} {x : List ℕ} {ψ : Formula} → kind b ≡ Infix (suc m) → m < l → Derives i kind 0 x ψ → Formulas l (w ++ (b ∷ x))
   after (operand k f) kb h x = absurd (not-suc-le-zero h)
   after (prefix k y f) kb h x = absurd (not-suc-le-zero h)
@@ -68,19 +72,21 @@ module _ (i : ℕ) (kind : ℕ → Kind) where
   after (lower {l = l} y) {b = b} {m = m} {x = w} kb h x = ⊎-elim (λ e. (_, infixed (subst (λ (n : ℕ). kind b ≡ Infix (suc n)) e kb) y (raise (suc l) x) refl)) (λ g. let r = after y kb g x in (r .0, lower (r .1))) (eq-or-lt-of-le (le-of-suc-le-suc h))
   after (infixed {u = u} {v = v} k y z f) {b = b} {x = w} kb h x = let r = after z kb h x in rw append-assoc (_, infixed k y (r .1) refl)
 
-  -- what is read so far and waits for an operand, and what is read so far and is whole, with d parentheses open
+  -- the marks become a formula with any operand after them
   abbrev AwaitsOperand : List ℕ → Type 0
   AwaitsOperand q = (x : List ℕ) (φ : Formula) → Derives i kind 0 x φ → Formulas 4 (q ++ x)
 
+  -- the marks after the last of d open parentheses are as P says, and those before each wait for an operand
   Nested : ℕ → (List ℕ → Type 0) → List ℕ → Type 0
   Nested zero P s = P s
   Nested (suc d) P s = (p : List ℕ) × (a : ℕ) × (q : List ℕ) × (s ≡ p ++ (a ∷ q)) × (kind a ≡ Open) × Nested d AwaitsOperand p × P q
 
+  -- what the marks passed are in each mode, with d parentheses open
   abbrev State : Bool → ℕ → List ℕ → Type 0
   State true d s = Nested d AwaitsOperand s
   State false d s = Nested d (Formulas 4) s
 
-  -- what stands innermost goes on
+  -- the marks after the last open parenthesis go on
   on-nested : (d : ℕ) (P Q : List ℕ → Type 0) (t : List ℕ) → ((q : List ℕ) → P q → Q (q ++ t)) → (s : List ℕ) → Nested d P s → Nested d Q (s ++ t)
   unfolding Nested
   on-nested zero P Q t f s h = f s h
@@ -102,7 +108,7 @@ module _ (i : ℕ) (kind : ℕ → Kind) where
       let ed : d ≡ d′ = cc in
       subst (λ (x : Bool). State x d′ s) ew (subst (λ (n : ℕ). State w n s) ed h)
 
-  -- the step of the scan keeps the state
+  -- each step keeps the state
   module _ (levels : Levels kind) where
     mark : (b : ℕ) (k : Kind) → kind b ≡ k → (w : Bool) (d : ℕ) (s : List ℕ) (w′ : Bool) (d′ : ℕ) → markStep k w d ≡ Next w′ d′ → State w d s → State w′ d′ (s ++ (b ∷ []))
     mark b Operand kb true d s w′ d′ e h = moved false d w′ d′ _ e (on-nested d AwaitsOperand (Formulas 4) (b ∷ []) (λ q f. f _ _ (operand kb refl)) s h)
@@ -120,7 +126,7 @@ module _ (i : ℕ) (kind : ℕ → Kind) where
     mark b Close kb false (suc d) s w′ d′ e h = moved false d w′ d′ _ e (closed d b s kb h)
     mark b Other kb w d s w′ d′ e h = absurd (stuck w′ d′ e)
 
-    -- a scan of marks to its end
+    -- and so does a run
     whole : (s : List ℕ) (w : Bool) (d : ℕ) (t : List ℕ) (w′ : Bool) (d′ : ℕ) → run kind s w d ≡ Next w′ d′ → State w d t → State w′ d′ (t ++ s)
     unfolding run
     whole [] w d t w′ d′ e h = rw append-nil (moved w d w′ d′ t e h)
@@ -143,17 +149,17 @@ module _ (i : ℕ) (kind : ℕ → Kind) where
       run-closers zero = refl
       run-closers (suc d) = rw close (run-closers d)
 
-      run-rest : (w : Bool) (d : ℕ) → run kind (rest w d) w d ≡ Next false 0
-      unfolding run rest
-      run-rest true d = rw false-operand (run-closers d)
-      run-rest false d = run-closers d
+      run-completion : (w : Bool) (d : ℕ) → run kind (completion w d) w d ≡ Next false 0
+      unfolding run completion
+      run-completion true d = rw false-operand (run-closers d)
+      run-completion false d = run-closers d
 
       -- what the scan takes can begin a text, and what begins a text the scan takes
       begins : (s : List ℕ) (w : Bool) (d : ℕ) → run kind (marks s) true 0 ≡ Next w d → Begins i kind s
       begins s w d e =
-          let m : marks (s ++ rest w d) ≡ marks s ++ rest w d = marks-append s (rest w d) ∙ ap (λ (r : List ℕ). marks s ++ r) (marks-rest w d) in
-          let r : Formulas 4 (marks s ++ rest w d) = whole-formula (marks s ++ rest w d) (run-append kind (marks s) (rest w d) true 0 ∙ ap (λ (x : Step). on x (run kind (rest w d))) e ∙ run-rest w d) in
-          (rest w d, r .0, rw m (r .1))
+          let m : marks (s ++ completion w d) ≡ marks s ++ completion w d = marks-append s (completion w d) ∙ ap (λ (r : List ℕ). marks s ++ r) (marks-completion w d) in
+          let r : Formulas 4 (marks s ++ completion w d) = whole-formula (marks s ++ completion w d) (run-append kind (marks s) (completion w d) true 0 ∙ ap (λ (x : Step). on x (run kind (completion w d))) e ∙ run-completion w d) in
+          (completion w d, r .0, rw m (r .1))
 
       run-reads : (text : List ℕ) (φ : Formula) → Reads i kind text φ → run kind (marks text) true 0 ≡ Next false 0
       unfolding run

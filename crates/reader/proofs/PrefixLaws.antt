@@ -1,34 +1,34 @@
 -- The laws behind the reading function of what prefix marks bind: parentheses, a prefix mark, an operand.
 -- Assumes nothing.
-use mathlib.Core.Path.{_≡_, refl, sym, ap, subst, _∙_}
+use mathlib.Core.Path.{_≡_, sym, ap, subst, _∙_}
 use mathlib.Core.Bool.{Bool, true, false, true≢false}
 use mathlib.Core.List.{List, [], _∷_, _++_, append-assoc}
-use Prim.Native.Nat.{ℕ, suc, _+_, _≤_, _<_}
+use Prim.Native.Nat.{ℕ, _+_, _≤_, _<_}
 use native.Mathlib.Omega.{arith}
 use lib.ListN.{length, getD, drop, set}
 use lib.Seq.{sets}
 use Rattle.reader.specs.declared.marks.Kind.{Kind}
-use Rattle.reader.specs.declared.marks.Kind.the-variants.{Operand, Prefix, Infix, Open, Close, Other}
+use Rattle.reader.specs.declared.marks.Kind.the-variants.{Operand, Prefix, Open, Close}
 use Rattle.reader.specs.declared.levels.Pos.{Pos}
 use Rattle.reader.specs.Formula.{Formula, unary, size, operators, withUnary}
-use Rattle.reader.specs.Marks.{kindOf, operandOf, unaryOf}
+use Rattle.reader.specs.Marks.{kindOf, unaryOf}
 use Rattle.reader.specs.Grammar.{marks, Derives, operand, prefix, parens}
 use Rattle.reader.specs.Nodes.{unaryCode, wordOf, code}
 use Rattle.reader.specs.Words.{nodeOf}
-use Rattle.reader.specs.Counts.{tick}
 use Rattle.reader.specs.Steps.{NotBlank, PastMark, isOpen, isPrefix, CanFollow, Readable, Parsed, Consumed}
 use Rattle.reader.proofs.MarkLaws.{operand-size, operand-operators, operand-code, prefix-tick}
-use Rattle.reader.proofs.NodeLaws.{size-pos, code-unary}
+use Rattle.reader.proofs.NodeLaws.{size-pos, size-unary, operators-unary, code-unary}
 use Rattle.reader.proofs.TextLaws.{inside}
 use Rattle.reader.proofs.FollowLaws.{follow-close}
+use Rattle.reader.proofs.InfixLaws.{coordinate-small}
 
--- two equal bytes are not of a kind that the test takes and of one that it does not
-differ : (test : Kind → Bool) (x y : ℕ) (k : Kind) (t : Bool) → x ≡ y → kindOf y ≡ k → test (kindOf x) ≡ t → test k ≡ t
-differ test x y k t e f o = sym (ap test (ap kindOf e ∙ f)) ∙ o
+-- a test of kinds has the same answer on equal bytes
+same-test : (test : Kind → Bool) (x y : ℕ) (k : Kind) (t : Bool) → x ≡ y → kindOf y ≡ k → test (kindOf x) ≡ t → test k ≡ t
+same-test test x y k t e f o = sym (ap test (ap kindOf e ∙ f)) ∙ o
 
 -- a formula is not at the end of the text
-pub starts : (i : ℕ) (text : List ℕ) (p : Pos) (room : ℕ) → Readable i 0 text p room → p .at < length text
-starts i text p room r = go (r .taken) (r .formula) (r .derived) (r .here)
+pub starts : {i : ℕ} {text : List ℕ} {p : Pos} {room : ℕ} → Readable i 0 text p room → p .at < length text
+starts {i} {text} {p} r = go (r .taken) (r .formula) (r .derived) (r .here)
   where
     go : (w : List ℕ) (φ : Formula) → Derives i kindOf 0 w φ → marks (drop (p .at) text) ≡ w ++ r .rest → p .at < length text
     go w φ (operand {b = b} k eφ) e = inside text (p .at) b _ e
@@ -39,8 +39,12 @@ starts i text p room r = go (r .taken) (r .formula) (r .derived) (r .here)
 abbrev pub inner : Pos → Pos → Pos
 inner p q = record { at = q .at; nodes = q .nodes; coordinate = p .coordinate }
 
+-- what was read up to z, with the place past the closing parenthesis
+abbrev pub closed : Pos → Pos → Pos
+closed z s = record { at = s .at; nodes = z .nodes; coordinate = z .coordinate }
+
 -- the mark at p has been passed
-module _ (i : ℕ) (text : List ℕ) (p q : Pos) (mark : PastMark text p q) where
+module _ (i : ℕ) {text : List ℕ} {p q : Pos} (mark : PastMark text p q) where
   head : (b : ℕ) (s : List ℕ) → marks (drop (p .at) text) ≡ b ∷ s → getD text (p .at) 0 ≡ b
   head b s e = let d : getD text (p .at) 0 ∷ marks (drop (q .at) text) ≡ b ∷ s = sym (mark .mark) ∙ e in cc
 
@@ -59,48 +63,53 @@ module _ (i : ℕ) (text : List ℕ) (p q : Pos) (mark : PastMark text p q) wher
       close : kindOf b ≡ Close
 
     held : (w rest : List ℕ) (φ : Formula) → Derives i kindOf 0 w φ → marks (drop (p .at) text) ≡ w ++ rest → Held rest φ
-    held w rest φ (operand {b = b} k eφ) e = absurd (true≢false (sym (differ isOpen _ b Operand true (head b _ e) k opens)))
-    held w rest φ (prefix {b = b} k x eφ) e = absurd (true≢false (sym (differ isOpen _ b Prefix true (head b _ e) k opens)))
+    held w rest φ (operand {b = b} k eφ) e = absurd (true≢false (sym (same-test isOpen _ b Operand true (head b _ e) k opens)))
+    held w rest φ (prefix {b = b} k x eφ) e = absurd (true≢false (sym (same-test isOpen _ b Prefix true (head b _ e) k opens)))
     held w rest φ (parens {a = a} {b = b} {w = v} ka kb x) e =
         record { v = v; b = b; here = tail a _ e ∙ append-assoc v (b ∷ []) rest; derived = x; close = kb }
 
-    pub within : (room : ℕ) → Readable i 0 text p room → Readable i 4 text (inner p q) room
-    within room r =
-        let h = held (r .taken) (r .rest) (r .formula) (r .derived) (r .here) in
-        record {
-          no-blank = mark .no-blank;
-          formula = r .formula;
-          taken = h .v;
-          rest = h .b ∷ r .rest;
-          here = h .here;
-          derived = h .derived;
-          follows = follow-close 4 (h .b) (r .rest) (h .close);
-          fits = omega (arith, mark .nodes, r .fits);
-          few = r .few;
-          small = r .small
-        }
+    -- the formula at p can be read
+    module _ {room : ℕ} (r : Readable i 0 text p room) where
+      readable-held : Held (r .rest) (r .formula)
+      readable-held = held (r .taken) (r .rest) (r .formula) (r .derived) (r .here)
 
-    -- what they hold has been read up to r
-    module _ (out : List ℕ) (r : Pos) (out₁ : List ℕ) (k : Consumed i 4 text (inner p q) out r out₁) where
-      held-parsed : (rest : List ℕ) (φ : Formula) (h : Held rest φ) → Parsed text (inner p q) out r out₁ (h .b ∷ rest) φ
-      held-parsed rest φ h = k .reads (h .v) (h .b ∷ rest) φ (h .here) (h .derived) (follow-close 4 (h .b) rest (h .close))
+      pub within : Readable i 4 text (inner p q) room
+      within =
+          let h = readable-held in
+          record {
+            no-blank = mark .no-blank;
+            formula = r .formula;
+            taken = h .v;
+            rest = h .b ∷ r .rest;
+            here = h .here;
+            derived = h .derived;
+            follows = follow-close 4 (h .b) (r .rest) (h .close);
+            fits = omega (arith, mark .nodes, r .fits);
+            few = r .few;
+            small = r .small;
+          }
 
-      pub ends : (room : ℕ) → Readable i 0 text p room → r .at < length text
-      ends room g =
-          let h = held (g .taken) (g .rest) (g .formula) (g .derived) (g .here) in
-          inside text (r .at) (h .b) (g .rest) (held-parsed (g .rest) (g .formula) h .left)
+      -- what they hold has been read up to z
+      module _ {out : List ℕ} {z : Pos} {out₁ : List ℕ} (k : Consumed i 4 text (inner p q) out z out₁) where
+        held-parsed : (rest : List ℕ) (φ : Formula) (h : Held rest φ) → Parsed text (inner p q) out z out₁ (h .b ∷ rest) φ
+        held-parsed rest φ h = k .reads (h .v) (h .b ∷ rest) φ (h .here) (h .derived) (follow-close 4 (h .b) rest (h .close))
 
-      -- s is past the closing parenthesis
-      pub wrapped : (s : Pos) → PastMark text r s → Consumed i 0 text p out (record { at = s .at; nodes = r .nodes; coordinate = r .coordinate }) out₁
-      wrapped s past-close = record { past = omega (arith, mark .past, k .past, past-close .past); within = past-close .within; no-blank = past-close .no-blank; reads = go }
-        where
-          go : (w rest : List ℕ) (φ : Formula) → marks (drop (p .at) text) ≡ w ++ rest → Derives i kindOf 0 w φ → CanFollow 0 rest → Parsed text p out (record { at = s .at; nodes = r .nodes; coordinate = r .coordinate }) out₁ rest φ
-          go w rest φ e x c =
-              let h = held w rest φ x e in
-              let m = held-parsed rest φ h in
-              let d : getD text (r .at) 0 ∷ marks (drop (s .at) text) ≡ h .b ∷ rest = sym (past-close .mark) ∙ m .left in
-              let n : q .nodes ≡ p .nodes = mark .nodes in
-              record { left = cc; nodes = omega (arith, m .nodes); coordinate = m .coordinate; written = m .written ∙ cc }
+        pub close-ready : NotBlank text (z .at) × ((z .at < length text) × (z .coordinate ≤ 64))
+        close-ready =
+            let h = readable-held in
+            (k .no-blank, (inside text (z .at) (h .b) (r .rest) (held-parsed (r .rest) (r .formula) h .left), coordinate-small within k))
+
+        -- s is past the closing parenthesis
+        pub wrapped : {s : Pos} → PastMark text z s → Consumed i 0 text p out (closed z s) out₁
+        wrapped {s} close = record { past = omega (arith, mark .past, k .past, close .past); within = close .within; no-blank = close .no-blank; reads = go }
+          where
+            go : (w rest : List ℕ) (φ : Formula) → marks (drop (p .at) text) ≡ w ++ rest → Derives i kindOf 0 w φ → CanFollow 0 rest → Parsed text p out (closed z s) out₁ rest φ
+            go w rest φ e x c =
+                let h = held w rest φ x e in
+                let m = held-parsed rest φ h in
+                let d : getD text (z .at) 0 ∷ marks (drop (s .at) text) ≡ h .b ∷ rest = sym (close .mark) ∙ m .left in
+                let n : q .nodes ≡ p .nodes = mark .nodes in
+                record { left = cc; nodes = omega (arith, m .nodes); coordinate = m .coordinate; written = m .written ∙ cc }
 
   -- ---- a prefix mark
 
@@ -115,73 +124,74 @@ module _ (i : ℕ) (text : List ℕ) (p q : Pos) (mark : PastMark text p q) wher
       whole : φ ≡ unary (unaryOf (getD text (p .at) 0)) α
 
     bound : (w rest : List ℕ) (φ : Formula) → Derives i kindOf 0 w φ → marks (drop (p .at) text) ≡ w ++ rest → Bound rest φ
-    bound w rest φ (operand {b = b} k eφ) e = absurd (true≢false (sym (differ isPrefix _ b Operand true (head b _ e) k binds)))
+    bound w rest φ (operand {b = b} k eφ) e = absurd (true≢false (sym (same-test isPrefix _ b Operand true (head b _ e) k binds)))
     bound w rest φ (prefix {b = b} {w = v} {φ = α} k x eφ) e =
         record { v = v; α = α; kind = ap kindOf (head b _ e) ∙ k; here = tail b _ e; derived = x; whole = eφ ∙ ap (λ (y : ℕ). unary (unaryOf y) α) (sym (head b _ e)) }
-    bound w rest φ (parens {a = a} ka kb x) e = absurd (true≢false (sym (differ isPrefix _ a Open true (head a _ e) ka binds)))
+    bound w rest φ (parens {a = a} ka kb x) e = absurd (true≢false (sym (same-test isPrefix _ a Open true (head a _ e) ka binds)))
 
-    pub below : (room : ℕ) → Readable i 0 text p room → Readable i 0 text q room
-    unfolding size operators
-    below room r =
-        let h = bound (r .taken) (r .rest) (r .formula) (r .derived) (r .here) in
-        let b = getD text (p .at) 0 in
-        let f : size (r .formula) ≡ size (h .α) + 1 = ap size (h .whole) in
-        let g : operators (r .formula) ≡ withUnary (unaryOf b) (operators (h .α)) = ap operators (h .whole) in
-        let t : withUnary (unaryOf b) (operators (h .α)) ≡ operators (h .α) + tick b = prefix-tick b (h .kind) (operators (h .α)) in
-        record {
-          no-blank = mark .no-blank;
-          formula = h .α;
-          taken = h .v;
-          rest = r .rest;
-          here = h .here;
-          derived = h .derived;
-          follows = r .follows;
-          fits = omega (arith, mark .nodes, r .fits);
-          few = omega (arith, mark .coordinate, r .few);
-          small = r .small
-        }
+    -- the formula at p can be read
+    module _ {room : ℕ} (r : Readable i 0 text p room) where
+      readable-bound : Bound (r .rest) (r .formula)
+      readable-bound = bound (r .taken) (r .rest) (r .formula) (r .derived) (r .here)
 
-    -- the operand has been read up to r
-    module _ (out : List ℕ) (r : Pos) (out₁ : List ℕ) (k : Consumed i 0 text q out r out₁) where
-      pub below-space : (room : ℕ) → Readable i 0 text p room → r .nodes < room
-      unfolding size
-      below-space room g =
-          let h = bound (g .taken) (g .rest) (g .formula) (g .derived) (g .here) in
-          let n = k .reads (h .v) (g .rest) (h .α) (h .here) (h .derived) (g .follows) in
-          let f : size (g .formula) ≡ size (h .α) + 1 = ap size (h .whole) in
-          omega (arith, n .nodes, mark .nodes, g .fits)
+      pub below : Readable i 0 text q room
+      below =
+          let h = readable-bound in
+          let b = getD text (p .at) 0 in
+          let f = size-unary (unaryOf b) (h .α) (r .formula) (h .whole) in
+          let g = operators-unary (unaryOf b) (h .α) (r .formula) (h .whole) in
+          record {
+            no-blank = mark .no-blank;
+            formula = h .α;
+            taken = h .v;
+            rest = r .rest;
+            here = h .here;
+            derived = h .derived;
+            follows = r .follows;
+            fits = omega (arith, mark .nodes, r .fits);
+            few = omega (arith, mark .coordinate, r .few, prefix-tick b (h .kind) (operators (h .α)));
+            small = r .small;
+          }
 
-      -- with the operator's node written, the formula has been read
-      pub prefixed : (s : Pos) (out₂ : List ℕ) → s .at ≡ r .at → s .nodes ≡ r .nodes + 1 → s .coordinate ≡ r .coordinate → out₂ ≡ set out₁ (r .nodes) (nodeOf i (getD text (p .at) 0) 0 (p .coordinate) (kindOf (getD text (p .at) 0))) → Consumed i 0 text p out s out₂
-      unfolding size operators
-      prefixed s out₂ ea en ec eo = record { past = omega (arith, mark .past, k .past); within = omega (arith, k .within); no-blank = rw ea (k .no-blank); reads = go }
-        where
-          go : (w rest : List ℕ) (φ : Formula) → marks (drop (p .at) text) ≡ w ++ rest → Derives i kindOf 0 w φ → CanFollow 0 rest → Parsed text p out s out₂ rest φ
-          go w rest φ e x c =
-              let h = bound w rest φ x e in
-              let n = k .reads (h .v) rest (h .α) (h .here) (h .derived) c in
-              let b = getD text (p .at) 0 in
-              let t : withUnary (unaryOf b) (p .coordinate) ≡ p .coordinate + tick b = prefix-tick b (h .kind) (p .coordinate) in
-              let t′ : withUnary (unaryOf b) (operators (h .α)) ≡ operators (h .α) + tick b = prefix-tick b (h .kind) (operators (h .α)) in
-              let n₁ : q .nodes ≡ p .nodes = mark .nodes in
-              let n₂ : r .nodes ≡ p .nodes + size (h .α) = omega (arith, n .nodes) in
-              let k₁ : q .coordinate ≡ withUnary (unaryOf b) (p .coordinate) = omega (arith, mark .coordinate) in
-              let w₁ : out₁ ≡ sets out (q .nodes) (code (q .nodes) (q .coordinate) (h .α)) = n .written in
-              let w₂ : nodeOf i b 0 (p .coordinate) (kindOf b) ≡ wordOf (unaryCode (unaryOf b)) 0 (p .coordinate) = ap (nodeOf i b 0 (p .coordinate)) (h .kind) in
-              subst (λ (χ : Formula). Parsed text p out s out₂ rest χ) (sym (h .whole)) (record {
-                left = ap (λ (j : ℕ). marks (drop j text)) ea ∙ n .left;
-                nodes = omega arith;
-                coordinate = omega (arith, n .coordinate);
-                written = code-unary (p .nodes) (p .coordinate) (unaryOf b) (h .α) out out₁ out₂ (w₁ ∙ cc) (eo ∙ cc)
-              })
+      -- the operand has been read up to z
+      module _ {out : List ℕ} {z : Pos} {out₁ : List ℕ} (k : Consumed i 0 text q out z out₁) where
+        pub prefix-ready : {now-room : ℕ} → now-room ≡ room → (p .at < length text) × ((0 ≤ 64) × ((p .coordinate ≤ 64) × (z .nodes < now-room)))
+        prefix-ready e =
+            let h = readable-bound in
+            let n = k .reads (h .v) (r .rest) (h .α) (h .here) (h .derived) (r .follows) in
+            let f = size-unary (unaryOf (getD text (p .at) 0)) (h .α) (r .formula) (h .whole) in
+            (starts r, (omega arith, (omega (arith, r .few), omega (arith, n .nodes, mark .nodes, r .fits))))
+
+        -- with the operator's node written, the formula has been read
+        pub prefixed : {s : Pos} {out₂ : List ℕ} → (s .at ≡ z .at) × ((s .nodes ≡ z .nodes + 1) × (s .coordinate ≡ z .coordinate)) → out₂ ≡ set out₁ (z .nodes) (nodeOf i (getD text (p .at) 0) 0 (p .coordinate) (kindOf (getD text (p .at) 0))) → Consumed i 0 text p out s out₂
+        unfolding size operators
+        prefixed {s} {out₂} es eo = record { past = omega (arith, es .0, mark .past, k .past); within = omega (arith, es .0, k .within); no-blank = rw (es .0) (k .no-blank); reads = go }
+          where
+            go : (w rest : List ℕ) (φ : Formula) → marks (drop (p .at) text) ≡ w ++ rest → Derives i kindOf 0 w φ → CanFollow 0 rest → Parsed text p out s out₂ rest φ
+            go w rest φ e x c =
+                let h = bound w rest φ x e in
+                let n = k .reads (h .v) rest (h .α) (h .here) (h .derived) c in
+                let b = getD text (p .at) 0 in
+                let n₁ : q .nodes ≡ p .nodes = mark .nodes in
+                let n₂ : z .nodes ≡ p .nodes + size (h .α) = omega (arith, n .nodes) in
+                let k₁ : q .coordinate ≡ withUnary (unaryOf b) (p .coordinate) = omega (arith, mark .coordinate, prefix-tick b (h .kind) (p .coordinate)) in
+                let w₁ : out₁ ≡ sets out (q .nodes) (code (q .nodes) (q .coordinate) (h .α)) = n .written in
+                let w₂ : nodeOf i b 0 (p .coordinate) (kindOf b) ≡ wordOf (unaryCode (unaryOf b)) 0 (p .coordinate) = ap (nodeOf i b 0 (p .coordinate)) (h .kind) in
+                subst (λ (χ : Formula). Parsed text p out s out₂ rest χ) (sym (h .whole)) (record {
+                  left = ap (λ (j : ℕ). marks (drop j text)) (es .0) ∙ n .left;
+                  nodes = omega (arith, es .1 .0);
+                  coordinate = omega (arith, es .1 .1, n .coordinate, prefix-tick b (h .kind) (operators (h .α)), prefix-tick b (h .kind) (p .coordinate));
+                  written = code-unary (p .nodes) (p .coordinate) (unaryOf b) (h .α) out out₁ out₂ (w₁ ∙ cc) (eo ∙ cc);
+                })
 
   -- ---- an operand
 
-  pub operand-space : (room : ℕ) → Readable i 0 text p room → q .nodes < room
-  operand-space room r = omega (arith, size-pos (r .formula), r .fits, mark .nodes)
+  pub operand-ready : {room : ℕ} → Readable i 0 text p room → (p .at < length text) × ((0 ≤ 64) × ((p .coordinate ≤ 64) × (q .nodes < room)))
+  operand-ready r = (starts r, (omega arith, (omega (arith, r .few), omega (arith, size-pos (r .formula), r .fits, mark .nodes))))
 
-  pub single : isOpen (kindOf (getD text (p .at) 0)) ≡ false → isPrefix (kindOf (getD text (p .at) 0)) ≡ false → (out : List ℕ) (s : Pos) (out₁ : List ℕ) → s .at ≡ q .at → s .nodes ≡ q .nodes + 1 → s .coordinate ≡ p .coordinate → out₁ ≡ set out (q .nodes) (nodeOf i (getD text (p .at) 0) 0 (p .coordinate) (kindOf (getD text (p .at) 0))) → Consumed i 0 text p out s out₁
-  single no-open no-prefix out s out₁ ea en ec eo = record { past = omega (arith, mark .past); within = omega (arith, mark .within); no-blank = rw ea (mark .no-blank); reads = go }
+  -- with its node written, it has been read
+  pub single : isOpen (kindOf (getD text (p .at) 0)) ≡ false → isPrefix (kindOf (getD text (p .at) 0)) ≡ false → {out : List ℕ} {s : Pos} {out₁ : List ℕ} → (s .at ≡ q .at) × ((s .nodes ≡ q .nodes + 1) × (s .coordinate ≡ p .coordinate)) → out₁ ≡ set out (q .nodes) (nodeOf i (getD text (p .at) 0) 0 (p .coordinate) (kindOf (getD text (p .at) 0))) → Consumed i 0 text p out s out₁
+  single no-open no-prefix {out} {s} {out₁} es eo = record { past = omega (arith, es .0, mark .past); within = omega (arith, es .0, mark .within); no-blank = rw (es .0) (mark .no-blank); reads = go }
     where
       go : (w rest : List ℕ) (φ : Formula) → marks (drop (p .at) text) ≡ w ++ rest → Derives i kindOf 0 w φ → CanFollow 0 rest → Parsed text p out s out₁ rest φ
       go w rest φ e (operand {b = b} k eφ) c =
@@ -190,10 +200,10 @@ module _ (i : ℕ) (text : List ℕ) (p q : Pos) (mark : PastMark text p q) wher
           let eb : getD text (p .at) 0 ≡ b = head b _ e in
           let w₁ : nodeOf i (getD text (p .at) 0) 0 k₀ (kindOf (getD text (p .at) 0)) ≡ nodeOf i b 0 k₀ Operand = ap (λ (y : ℕ). nodeOf i y 0 k₀ (kindOf y)) eb ∙ ap (nodeOf i b 0 k₀) k in
           subst (λ (χ : Formula). Parsed text p out s out₁ rest χ) (sym eφ) (record {
-            left = ap (λ (j : ℕ). marks (drop j text)) ea ∙ tail b _ e;
-            nodes = omega (arith, operand-size i b k₀);
-            coordinate = omega (arith, operand-operators i b k₀);
-            written = eo ∙ (ap (λ (y : ℕ). set out (q .nodes) y) w₁ ∙ (ap (λ (j : ℕ). set out j (nodeOf i b 0 k₀ Operand)) n₁ ∙ ap (λ (y : List ℕ). sets out (p .nodes) y) (sym (operand-code i b k₀ (p .nodes)))))
+            left = ap (λ (j : ℕ). marks (drop j text)) (es .0) ∙ tail b _ e;
+            nodes = omega (arith, es .1 .0, operand-size i b k₀);
+            coordinate = omega (arith, es .1 .1, operand-operators i b k₀);
+            written = eo ∙ (ap (λ (y : ℕ). set out (q .nodes) y) w₁ ∙ (ap (λ (j : ℕ). set out j (nodeOf i b 0 k₀ Operand)) n₁ ∙ ap (λ (y : List ℕ). sets out (p .nodes) y) (sym (operand-code i b k₀ (p .nodes)))));
           })
-      go w rest φ e (prefix {b = b} k x eφ) c = absurd (true≢false (differ isPrefix _ b Prefix false (head b _ e) k no-prefix))
-      go w rest φ e (parens {a = a} ka kb x) c = absurd (true≢false (differ isOpen _ a Open false (head a _ e) ka no-open))
+      go w rest φ e (prefix {b = b} k x eφ) c = absurd (true≢false (same-test isPrefix _ b Prefix false (head b _ e) k no-prefix))
+      go w rest φ e (parens {a = a} ka kb x) c = absurd (true≢false (same-test isOpen _ a Open false (head a _ e) ka no-open))

@@ -1,14 +1,12 @@
 -- From the pass and the counts of a text to its reading, and from its reading to its nodes.
 -- Assumes nothing.
-use mathlib.Core.Path.{_≡_, refl, sym, ap, subst, _∙_}
+use mathlib.Core.Path.{_≡_, refl, sym, subst, _∙_}
 use mathlib.Core.Bool.{Bool, true, false}
-use mathlib.Core.List.{List, [], _∷_, _++_, append-nil}
-use Prim.Native.Nat.{ℕ, suc, _+_, _≤_, _<_}
+use mathlib.Core.List.{List, [], append-nil}
+use Prim.Native.Nat.{ℕ, suc, _≤_, _<_}
 use native.Mathlib.Omega.{arith}
-use lib.ListN.{length}
-use lib.Seq.{sets}
 use Rattle.reader.specs.declared.marks.Kind.{Kind}
-use Rattle.reader.specs.declared.marks.Kind.the-variants.{Operand, Prefix, Infix, Open, Close, Other}
+use Rattle.reader.specs.declared.marks.Kind.the-variants.{Operand, Prefix, Infix, Open, Close}
 use Rattle.reader.specs.declared.scan.Scanned.the-variants.{Whole, Stopped}
 use Rattle.reader.specs.declared.reading.Reading.{Reading}
 use Rattle.reader.specs.declared.reading.Reading.the-variants.{Good, Bad, TooManyNodes, TooManyOperators}
@@ -19,10 +17,10 @@ use Rattle.reader.specs.Marks.{kindOf, kindIn}
 use Rattle.reader.specs.Grammar.{marks, Derives, operand, prefix, parens, lower, infixed, Reads}
 use Rattle.reader.specs.Place.{IsPlace}
 use Rattle.reader.specs.Reading.{IsGood, ReadingOf}
-use Rattle.reader.specs.Nodes.{code, nodesOf, Written}
+use Rattle.reader.specs.Nodes.{Written}
 use Rattle.reader.specs.Scan.{scanOf}
 use Rattle.reader.specs.Counts.{countOf}
-use Rattle.reader.specs.Steps.{PastBlanks, Readable, Parsed, Consumed}
+use Rattle.reader.specs.Steps.{PastBlanks, Readable, Consumed}
 use Rattle.reader.proofs.MarkLaws.{same-kind, infix-level, zero-in, close-in}
 use Rattle.reader.proofs.SizeLaws.{count-marks, count-nodes, count-operators}
 use Rattle.reader.proofs.PlaceLaws.{accepted, place}
@@ -98,7 +96,7 @@ module _ (i o : ℕ) (t : Bool) (text : List ℕ) where
           follows = tt;
           fits = omega (arith, g .few-nodes);
           few = omega (arith, g .few-operators);
-          small = omega arith
+          small = omega arith;
         }
 
     pub written : (n : ℕ) (out : List ℕ) (r : Pos) (out′ : List ℕ) → Consumed i 4 text p out r out′ → Written i K text (Good n) out out′

@@ -3,9 +3,9 @@
 use mathlib.Core.Path.{_≡_, refl, sym, ap, _∙_}
 use mathlib.Core.Bool.{Bool, true, false, cond, true≢false}
 use mathlib.Core.List.{List, [], _∷_, _++_}
-use Prim.Native.Nat.{ℕ, zero, suc, _+_, _≤_, _<_, suc-le-suc}
+use Prim.Native.Nat.{ℕ, zero, suc, _+_, _-_, _≤_, _<_, suc-le-suc}
 use native.Mathlib.Nat.{le-of-suc-le-suc, not-suc-le-zero}
-use native.Mathlib.Numerals.{add-one}
+use native.Mathlib.Numerals.{add-one, sub-one}
 use native.Mathlib.Omega.{arith}
 use lib.Dec.{eqb}
 use lib.ListN.{length, getD, take, drop, drop-of-length-le}
@@ -14,7 +14,6 @@ use Rattle.reader.specs.declared.marks.Kind.{Kind}
 use Rattle.reader.specs.declared.marks.Kind.the-variants.{Operand, Prefix, Infix, Open, Close, Other}
 use Rattle.reader.specs.declared.scan.Step.{Step}
 use Rattle.reader.specs.declared.scan.Step.the-variants.{Next, Stuck}
-use Rattle.reader.specs.declared.scan.Scanned.{Scanned}
 use Rattle.reader.specs.declared.scan.Scanned.the-variants.{Whole, Stopped}
 use Rattle.reader.specs.Grammar.{marks}
 use Rattle.reader.specs.Scan.{markStep, stepOf, scanOf, follow, endOf}
@@ -40,7 +39,7 @@ marks-append (b ∷ u) v = go (marks-append u v) (eqb b 32)
     go e false = ap (λ (r : List ℕ). b ∷ r) e
 
 module _ (kind : ℕ → Kind) where
-  -- the scan of marks
+  -- the steps at the marks, one after the other
   unfoldable pub run : List ℕ → Bool → ℕ → Step
   run [] w d = Next w d
   run (b ∷ s) w d = on (markStep (kind b) w d) (run s)
@@ -54,7 +53,7 @@ module _ (kind : ℕ → Kind) where
       go rec (Next w′ d′) = rec w′ d′
       go rec Stuck = refl
 
-  -- the scan's step, over the marks
+  -- the step at a byte is that at its mark, if it has one
   run-step : (b : ℕ) (s : List ℕ) (w : Bool) (d : ℕ) → run (marks (b ∷ s)) w d ≡ on (stepOf kind b w d) (run (marks s))
   unfolding run marks stepOf
   run-step b s w d = go (eqb b 32)
@@ -63,7 +62,7 @@ module _ (kind : ℕ → Kind) where
       go true = refl
       go false = refl
 
-  -- where the scan of s stops, counted from its beginning
+  -- the pass over s stops at j, counted from its beginning
   pub record StopsAt (s : List ℕ) (w : Bool) (d j : ℕ) : Type 0 where
     pub within : j ≤ length s
     pub passed : (w′ : Bool) × (d′ : ℕ) × (run (marks (take j s)) w d ≡ Next w′ d′)
@@ -97,6 +96,11 @@ module _ (kind : ℕ → Kind) where
       go rec Stuck p q = (0, (let f : at ≡ k = cc in omega arith), record { within = omega arith; passed = (w, d, refl); stuck-at = λ h. run-step b [] w d ∙ ap (λ (x : Step). on x (run [])) p; not-whole = λ g. stuck false 0 (sym (run-step b s w d ∙ ap (λ (x : Step). on x (run (marks s))) p) ∙ g) })
 
 -- ---- one turn of the loop
+
+-- a parenthesis that is open can be closed
+pub close-open : (d : ℕ) → (d ≡ 0 → ⊥) → Next false (d - 1) ≡ markStep Close false d
+close-open zero h = absurd (h refl)
+close-open (suc d) h = ap (λ (n : ℕ). Next false n) (sub-one (suc d))
 
 mark-depth : (k : Kind) (w : Bool) (d : ℕ) (w′ : Bool) (d′ : ℕ) → markStep k w d ≡ Next w′ d′ → d′ ≤ d + 1
 mark-depth Operand true d w′ d′ e = let f : d ≡ d′ = cc in omega arith

@@ -1,19 +1,17 @@
 -- The counts of a text, turn by turn as the loop takes them, and that they are the counts of its formula.
 -- Assumes nothing.
-use mathlib.Core.Path.{_≡_, refl, sym, ap, _∙_}
+use mathlib.Core.Path.{_≡_, refl, ap}
 use mathlib.Core.Bool.{Bool, true, false, cond}
 use mathlib.Core.List.{List, [], _∷_, _++_}
-use Prim.Native.Nat.{ℕ, zero, suc, _+_, _≤_, _<_}
+use Prim.Native.Nat.{ℕ, suc, _+_, _≤_, _<_}
 use native.Mathlib.Numerals.{add-one}
 use native.Mathlib.Omega.{arith}
 use lib.Dec.{eqb}
 use lib.ListN.{length, getD, drop, drop-of-length-le}
 use lib.Seq.{drop-cons}
 use borrow.Author.Tests.{eqb-true}
-use Rattle.reader.specs.declared.marks.Kind.{Kind}
-use Rattle.reader.specs.declared.marks.Kind.the-variants.{Operand, Prefix, Infix, Open, Close, Other}
-use Rattle.reader.specs.Formula.{Formula, unary, binary, size, operators}
-use Rattle.reader.specs.Marks.{kindOf, isTemporal, amongOf, unaryOf, binaryOf}
+use Rattle.reader.specs.Formula.{Formula, size, operators}
+use Rattle.reader.specs.Marks.{kindOf, isTemporal, amongOf}
 use Rattle.reader.specs.Grammar.{marks, Derives, operand, prefix, parens, lower, infixed}
 use Rattle.reader.specs.Counts.{tick, weightOf, countOf}
 use Rattle.reader.proofs.MarkLaws.{operand-size, operand-operators, prefix-tick, infix-tick}

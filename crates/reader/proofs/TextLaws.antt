@@ -1,9 +1,9 @@
 -- The marks of a text from a place on, and what the small functions of the reading say of them.
 -- Assumes nothing.
-use mathlib.Core.Path.{_≡_, refl, sym, ap, _∙_}
+use mathlib.Core.Path.{_≡_, sym, ap, _∙_}
 use mathlib.Core.Bool.{Bool, true, false, cond}
 use mathlib.Core.List.{List, [], _∷_}
-use Prim.Native.Nat.{ℕ, suc, _+_, _≤_, _<_}
+use Prim.Native.Nat.{ℕ, _+_, _≤_, _<_}
 use native.Mathlib.Numerals.{add-one}
 use native.Mathlib.Nat.{lt-of-not-le}
 use native.Mathlib.Omega.{arith}
@@ -57,5 +57,5 @@ past-mark text p r h n k e f =
       no-blank = k .no-blank;
       mark = mark-at text (p .at) h (n h) ∙ ap (λ (w : List ℕ). getD text (p .at) 0 ∷ w) (sym (k .same));
       nodes = e;
-      coordinate = f
+      coordinate = f;
     }

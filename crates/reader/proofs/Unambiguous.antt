@@ -1,8 +1,8 @@
 -- A text has one reading: at most one formula, at most one place, never both, and always one of them.
 -- Assumes nothing.
 use mathlib.Core.Path.{_≡_, refl, sym, ap, subst, _∙_}
-use mathlib.Core.Logic.{_⊎_, inl, inr, ⊎-elim}
-use mathlib.Core.Bool.{Bool, true, false, cond}
+use mathlib.Core.Logic.{_⊎_, inl, inr}
+use mathlib.Core.Bool.{Bool, true, cond}
 use mathlib.Core.List.{List, [], _∷_, _++_, append-assoc}
 use Prim.Native.Nat.{ℕ, suc, _≤_, _<_}
 use native.Mathlib.Nat.{lt-of-not-le, le-antisymm}
@@ -13,15 +13,15 @@ use lib.Dec.{ltb}
 use lib.ListN.{take, drop, take-append-drop}
 use lib.Seq.{take-take}
 use Rattle.reader.specs.declared.marks.Kind.{Kind}
-use Rattle.reader.specs.declared.marks.Kind.the-variants.{Operand, Prefix, Infix, Open, Close, Other}
+use Rattle.reader.specs.declared.marks.Kind.the-variants.{Operand, Prefix, Open}
 use Rattle.reader.specs.declared.scan.Scanned.{Scanned}
 use Rattle.reader.specs.declared.scan.Scanned.the-variants.{Whole, Stopped}
 use Rattle.reader.specs.declared.reading.Reading.{Reading}
 use Rattle.reader.specs.declared.reading.Reading.the-variants.{Good, Bad, TooManyNodes, TooManyOperators}
 use Rattle.reader.specs.Limits.{nodeLimit, operatorLimit}
 use Rattle.reader.specs.Formula.{Formula, size, operators}
-use Rattle.reader.specs.Marks.{kindOf, kindIn, unaryOf, binaryOf}
-use Rattle.reader.specs.Grammar.{marks, Derives, operand, prefix, parens, lower, infixed, Reads}
+use Rattle.reader.specs.Marks.{kindOf, kindIn}
+use Rattle.reader.specs.Grammar.{Derives, operand, prefix, parens, lower, infixed, Reads}
 use Rattle.reader.specs.Place.{Begins, IsPlace}
 use Rattle.reader.specs.Reading.{IsGood, ReadingOf}
 use Rattle.reader.specs.Scan.{scanOf}

@@ -2,7 +2,7 @@
 -- No promise of a call that 01 names rests on this file.
 -- Assumes nothing.
 use Prim.Native.Nat.{ℕ, _+_}
-use mathlib.Core.Bool.{Bool, true, false, cond}
+use mathlib.Core.Bool.{Bool, cond}
 use mathlib.Core.List.{List, [], _∷_}
 use Rattle.reader.specs.declared.marks.Kind.{Kind}
 use Rattle.reader.specs.declared.marks.Kind.the-variants.{Operand, Prefix, Infix, Open, Close, Other}

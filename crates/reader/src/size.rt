@@ -24,27 +24,9 @@ fn weight(b: u8, temporal: bool) -> usize
 {
     let k = kind_of(b);
     match k {
-        Kind::Operand => {
-            if temporal {
-                0
-            } else {
-                1
-            }
-        }
-        Kind::Prefix => {
-            if temporal {
-                tick_of(b)
-            } else {
-                1
-            }
-        }
-        Kind::Infix(_) => {
-            if temporal {
-                tick_of(b)
-            } else {
-                1
-            }
-        }
+        Kind::Operand => { if temporal { 0 } else { 1 } }
+        Kind::Prefix => { if temporal { tick_of(b) } else { 1 } }
+        Kind::Infix(_) => { if temporal { tick_of(b) } else { 1 } }
         Kind::Open => 0,
         Kind::Close => 0,
         Kind::Other => 0,

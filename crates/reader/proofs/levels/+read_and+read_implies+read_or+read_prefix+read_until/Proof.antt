@@ -1,11 +1,12 @@
-use Prim.Native.Nat.{ℕ, _<_, _≤_, _+_, _-_, _*_}
-use mathlib.Core.Path.{_≡_, refl, sym, ap, subst, _∙_}
+-- The five reading functions meet their contracts, in one proof: they call each other.
+-- The measure of a call is six times the bytes left, and the level on top: it falls at every mark that is passed, and from a level to the one below.
+-- The four infix levels are answered alike by InfixLaws, over the level, and what prefix marks bind by PrefixLaws. Assumes nothing.
+use Prim.Native.Nat.{ℕ, _<_, _+_, _-_, _*_}
+use mathlib.Core.Path.{sym, _∙_}
 use lib.ListN.{length}
 use native.Mathlib.Omega.{arith}
-use borrow.Author.Needs.{needs}
-use Rattle.reader.specs.Steps.{Readable}
-use Rattle.reader.proofs.InfixLaws.{down, counts, alone, right, space, joined}
-use Rattle.reader.proofs.PrefixLaws.{starts, within, ends, wrapped, below, below-space, prefixed, operand-space, single}
+use Rattle.reader.proofs.InfixLaws.{down, alone, over-ready, right, put-ready, joined}
+use Rattle.reader.proofs.PrefixLaws.{starts, within, close-ready, wrapped, below, prefix-ready, prefixed, operand-ready, single}
 use borrow.Fn.Kinds.{In}
 use borrow.Fn.PlainCycle.{Measures, is, falls, and}
 use Rattle.reader.proofs.levels.read_and.Reads as read-and
@@ -104,39 +105,46 @@ pub +read-and+read-implies+read-or+read-prefix+read-until-spec : {M : Type 1} �
     (read-and-at t)
     read-and.Post
     -- read-and-read-until-requires
-    (λ c κs. (omega (arith, c .before .before .before .pre .0), down _ 1 _ _ _ (c .before .before .before .pre .1)))
+    (λ c κs.
+    let a = c .before .before .before in
+    (omega (arith, a .pre .0), down 1 (a .pre .1)))
     -- read-and-level-at-requires
     (λ c κs. c .before .before .read-until .ensures .no-blank)
     -- read-and-over-requires
     (λ c κs.
-    let g = c .before .before .before .before .read-until .ensures in
-    let a = c .before .before .before .before .before .before .before .before in
-    (g .no-blank, (c .before .level-at .ensures .inside (omega (arith, c .if1 .taken)), counts _ 1 _ _ _ _ _ _ (down _ 1 _ _ _ (a .pre .1)) g .1)))
+    let q = c .before .before .before .before in
+    over-ready 1 (q .before .before .before .before .pre .1) (q .read-until .ensures) (c .before .level-at .ensures) (c .if1 .taken))
     -- read-and-read-and-requires
     (λ c κs.
-    let g = c .before .before .before .before .before .before .read-until in
-    let a = c .before .before .before .before .before .before .before .before .before .before in
-    let ov = c .before .over .ensures in
-    (omega (arith, a .pre .0, g .ensures .past, ov .past, ov .within), subst (λ (n : ℕ). Readable (a .args .i) 2 (a .args .text .now) (c .before .over .result) n) (sym (g .kept .1 .1 .1 .0)) (right _ 1 _ _ _ _ _ (g .ensures) _ ov (sym (c .before .before .before .level-at .ensures .first) ∙ c .before .before .if1 .taken) _ (a .pre .1))))
+    let o = c .before .over .ensures in
+    let level = c .before .before .before .level-at .ensures in
+    let q = c .before .before .before .before .before .before in
+    let a = q .before .before .before .before in (
+      omega (arith, a .pre .0, q .read-until .ensures .past, o .past, o .within),
+      right 1 (a .pre .1) (q .read-until .ensures) level (c .before .before .if1 .taken) o (q .read-until .kept .1 .1 .1 .0),
+    ))
     -- read-and-put-requires
     (λ c κs.
-    let g = c .before .before .before .before .before .before .before .before .before .before .read-until in
-    let f = c .before .before .before .read-and in
-    let a = c .before .before .before .before .before .before .before .before .before .before .before .before .before .before in
-    let lev = c .before .before .before .before .before .before .before .level-at .ensures in
-    let n = counts _ 1 _ _ _ _ _ _ (down _ 1 _ _ _ (a .pre .1)) (g .ensures) in
-    let s : f .result .nodes < length (a .args .out .now) = space _ 1 _ _ _ _ _ (g .ensures) _ (c .before .before .before .before .before .over .ensures) (sym (lev .first) ∙ c .before .before .before .before .before .before .if1 .taken) _ _ (f .ensures) _ (a .pre .1) in
-    (lev .inside (omega (arith, c .before .before .before .before .before .before .if1 .taken)), (omega (arith, n .0, n .2), (n .1, omega (arith, g .kept .1 .1 .1 .0, f .kept .1 .1 .1 .0)))))
+    let r = c .before .before .before .read-and in
+    let at = c .before .before .before .before .before .before in
+    let q = at .before .before .before .before in
+    put-ready 1 (q .before .before .before .before .pre .1) (q .read-until .ensures) (at .before .level-at .ensures) (at .if1 .taken) (c .before .before .before .before .before .over .ensures) (r .ensures)
+    (r .kept .1 .1 .1 .0 ∙ q .read-until .kept .1 .1 .1 .0))
     -- read-and-same-length
-    (λ c. c .before .before .put .kept .1 .1 .1 .1 .1 .0 ∙ (c .before .before .before .before .before .before .read-and .kept .1 .1 .1 .0 ∙ c .before .before .before .before .before .before .before .before .before .before .before .before .before .read-until .kept .1 .1 .1 .0))
+    (λ c.
+    let r = c .before .before .before .before .before .before in
+    c .before .before .put .kept .1 .1 .1 .1 .1 .0 ∙ (r .read-and .kept .1 .1 .1 .0 ∙ r .before .before .before .before .before .before .before .read-until .kept .1 .1 .1 .0))
     -- read-and-returns
     (λ c.
-    let r = c .before .before .put .ensures in
-    joined _ 1 _ _ _ _ _ (c .before .before .before .before .before .before .before .before .before .before .before .before .before .read-until .ensures) _ (c .before .before .before .before .before .before .before .before .over .ensures) (sym (c .before .before .before .before .before .before .before .before .before .before .level-at .ensures .first) ∙ c .before .before .before .before .before .before .before .before .before .if1 .taken) _ _ (c .before .before .before .before .before .before .read-and .ensures) _ _ (r .0 .0) (r .0 .1 .0) (r .0 .1 .1) (r .1))
+    let r = c .before .before .before .before .before .before in
+    let at = r .before .before .before in
+    let q = at .before .before .before .before in
+    joined 1 (q .before .before .before .before .pre .1) (q .read-until .ensures) (at .before .level-at .ensures) (at .if1 .taken) (r .before .before .over .ensures) (r .read-and .ensures)
+    (c .before .before .put .ensures .0) (c .before .before .put .ensures .1))
     -- read-and-same-length-2
     (λ c. c .before .before .before .before .read-until .kept .1 .1 .1 .0)
     -- read-and-returns-2
-    (λ c. alone _ 1 _ _ _ _ _ (c .before .before .before .before .read-until .ensures) (λ e. c .if1 .left (c .before .level-at .ensures .first ∙ e))))
+    (λ c. alone 1 (c .before .before .before .before .read-until .ensures) (c .before .level-at .ensures) (c .if1 .left)))
     (λ t. read-implies-lts.spec (
       read-or-below t,
       read-or.Post,
@@ -152,39 +160,46 @@ pub +read-and+read-implies+read-or+read-prefix+read-until-spec : {M : Type 1} �
     (read-implies-at t)
     read-implies.Post
     -- read-implies-read-or-requires
-    (λ c κs. (omega (arith, c .before .before .before .pre .0), down _ 3 _ _ _ (c .before .before .before .pre .1)))
+    (λ c κs.
+    let a = c .before .before .before in
+    (omega (arith, a .pre .0), down 3 (a .pre .1)))
     -- read-implies-level-at-requires
     (λ c κs. c .before .before .read-or .ensures .no-blank)
     -- read-implies-over-requires
     (λ c κs.
-    let g = c .before .before .before .before .read-or .ensures in
-    let a = c .before .before .before .before .before .before .before .before in
-    (g .no-blank, (c .before .level-at .ensures .inside (omega (arith, c .if1 .taken)), counts _ 3 _ _ _ _ _ _ (down _ 3 _ _ _ (a .pre .1)) g .1)))
+    let q = c .before .before .before .before in
+    over-ready 3 (q .before .before .before .before .pre .1) (q .read-or .ensures) (c .before .level-at .ensures) (c .if1 .taken))
     -- read-implies-read-implies-requires
     (λ c κs.
-    let g = c .before .before .before .before .before .before .read-or in
-    let a = c .before .before .before .before .before .before .before .before .before .before in
-    let ov = c .before .over .ensures in
-    (omega (arith, a .pre .0, g .ensures .past, ov .past, ov .within), subst (λ (n : ℕ). Readable (a .args .i) 4 (a .args .text .now) (c .before .over .result) n) (sym (g .kept .1 .1 .1 .0)) (right _ 3 _ _ _ _ _ (g .ensures) _ ov (sym (c .before .before .before .level-at .ensures .first) ∙ c .before .before .if1 .taken) _ (a .pre .1))))
+    let o = c .before .over .ensures in
+    let level = c .before .before .before .level-at .ensures in
+    let q = c .before .before .before .before .before .before in
+    let a = q .before .before .before .before in (
+      omega (arith, a .pre .0, q .read-or .ensures .past, o .past, o .within),
+      right 3 (a .pre .1) (q .read-or .ensures) level (c .before .before .if1 .taken) o (q .read-or .kept .1 .1 .1 .0),
+    ))
     -- read-implies-put-requires
     (λ c κs.
-    let g = c .before .before .before .before .before .before .before .before .before .before .read-or in
-    let f = c .before .before .before .read-implies in
-    let a = c .before .before .before .before .before .before .before .before .before .before .before .before .before .before in
-    let lev = c .before .before .before .before .before .before .before .level-at .ensures in
-    let n = counts _ 3 _ _ _ _ _ _ (down _ 3 _ _ _ (a .pre .1)) (g .ensures) in
-    let s : f .result .nodes < length (a .args .out .now) = space _ 3 _ _ _ _ _ (g .ensures) _ (c .before .before .before .before .before .over .ensures) (sym (lev .first) ∙ c .before .before .before .before .before .before .if1 .taken) _ _ (f .ensures) _ (a .pre .1) in
-    (lev .inside (omega (arith, c .before .before .before .before .before .before .if1 .taken)), (omega (arith, n .0, n .2), (n .1, omega (arith, g .kept .1 .1 .1 .0, f .kept .1 .1 .1 .0)))))
+    let r = c .before .before .before .read-implies in
+    let at = c .before .before .before .before .before .before in
+    let q = at .before .before .before .before in
+    put-ready 3 (q .before .before .before .before .pre .1) (q .read-or .ensures) (at .before .level-at .ensures) (at .if1 .taken) (c .before .before .before .before .before .over .ensures) (r .ensures)
+    (r .kept .1 .1 .1 .0 ∙ q .read-or .kept .1 .1 .1 .0))
     -- read-implies-same-length
-    (λ c. c .before .before .put .kept .1 .1 .1 .1 .1 .0 ∙ (c .before .before .before .before .before .before .read-implies .kept .1 .1 .1 .0 ∙ c .before .before .before .before .before .before .before .before .before .before .before .before .before .read-or .kept .1 .1 .1 .0))
+    (λ c.
+    let r = c .before .before .before .before .before .before in
+    c .before .before .put .kept .1 .1 .1 .1 .1 .0 ∙ (r .read-implies .kept .1 .1 .1 .0 ∙ r .before .before .before .before .before .before .before .read-or .kept .1 .1 .1 .0))
     -- read-implies-returns
     (λ c.
-    let r = c .before .before .put .ensures in
-    joined _ 3 _ _ _ _ _ (c .before .before .before .before .before .before .before .before .before .before .before .before .before .read-or .ensures) _ (c .before .before .before .before .before .before .before .before .over .ensures) (sym (c .before .before .before .before .before .before .before .before .before .before .level-at .ensures .first) ∙ c .before .before .before .before .before .before .before .before .before .if1 .taken) _ _ (c .before .before .before .before .before .before .read-implies .ensures) _ _ (r .0 .0) (r .0 .1 .0) (r .0 .1 .1) (r .1))
+    let r = c .before .before .before .before .before .before in
+    let at = r .before .before .before in
+    let q = at .before .before .before .before in
+    joined 3 (q .before .before .before .before .pre .1) (q .read-or .ensures) (at .before .level-at .ensures) (at .if1 .taken) (r .before .before .over .ensures) (r .read-implies .ensures)
+    (c .before .before .put .ensures .0) (c .before .before .put .ensures .1))
     -- read-implies-same-length-2
     (λ c. c .before .before .before .before .read-or .kept .1 .1 .1 .0)
     -- read-implies-returns-2
-    (λ c. alone _ 3 _ _ _ _ _ (c .before .before .before .before .read-or .ensures) (λ e. c .if1 .left (c .before .level-at .ensures .first ∙ e))))
+    (λ c. alone 3 (c .before .before .before .before .read-or .ensures) (c .before .level-at .ensures) (c .if1 .left)))
     (λ t. read-or-lts.spec (
       read-and-below t,
       read-and.Post,
@@ -200,39 +215,46 @@ pub +read-and+read-implies+read-or+read-prefix+read-until-spec : {M : Type 1} �
     (read-or-at t)
     read-or.Post
     -- read-or-read-and-requires
-    (λ c κs. (omega (arith, c .before .before .before .pre .0), down _ 2 _ _ _ (c .before .before .before .pre .1)))
+    (λ c κs.
+    let a = c .before .before .before in
+    (omega (arith, a .pre .0), down 2 (a .pre .1)))
     -- read-or-level-at-requires
     (λ c κs. c .before .before .read-and .ensures .no-blank)
     -- read-or-over-requires
     (λ c κs.
-    let g = c .before .before .before .before .read-and .ensures in
-    let a = c .before .before .before .before .before .before .before .before in
-    (g .no-blank, (c .before .level-at .ensures .inside (omega (arith, c .if1 .taken)), counts _ 2 _ _ _ _ _ _ (down _ 2 _ _ _ (a .pre .1)) g .1)))
+    let q = c .before .before .before .before in
+    over-ready 2 (q .before .before .before .before .pre .1) (q .read-and .ensures) (c .before .level-at .ensures) (c .if1 .taken))
     -- read-or-read-or-requires
     (λ c κs.
-    let g = c .before .before .before .before .before .before .read-and in
-    let a = c .before .before .before .before .before .before .before .before .before .before in
-    let ov = c .before .over .ensures in
-    (omega (arith, a .pre .0, g .ensures .past, ov .past, ov .within), subst (λ (n : ℕ). Readable (a .args .i) 3 (a .args .text .now) (c .before .over .result) n) (sym (g .kept .1 .1 .1 .0)) (right _ 2 _ _ _ _ _ (g .ensures) _ ov (sym (c .before .before .before .level-at .ensures .first) ∙ c .before .before .if1 .taken) _ (a .pre .1))))
+    let o = c .before .over .ensures in
+    let level = c .before .before .before .level-at .ensures in
+    let q = c .before .before .before .before .before .before in
+    let a = q .before .before .before .before in (
+      omega (arith, a .pre .0, q .read-and .ensures .past, o .past, o .within),
+      right 2 (a .pre .1) (q .read-and .ensures) level (c .before .before .if1 .taken) o (q .read-and .kept .1 .1 .1 .0),
+    ))
     -- read-or-put-requires
     (λ c κs.
-    let g = c .before .before .before .before .before .before .before .before .before .before .read-and in
-    let f = c .before .before .before .read-or in
-    let a = c .before .before .before .before .before .before .before .before .before .before .before .before .before .before in
-    let lev = c .before .before .before .before .before .before .before .level-at .ensures in
-    let n = counts _ 2 _ _ _ _ _ _ (down _ 2 _ _ _ (a .pre .1)) (g .ensures) in
-    let s : f .result .nodes < length (a .args .out .now) = space _ 2 _ _ _ _ _ (g .ensures) _ (c .before .before .before .before .before .over .ensures) (sym (lev .first) ∙ c .before .before .before .before .before .before .if1 .taken) _ _ (f .ensures) _ (a .pre .1) in
-    (lev .inside (omega (arith, c .before .before .before .before .before .before .if1 .taken)), (omega (arith, n .0, n .2), (n .1, omega (arith, g .kept .1 .1 .1 .0, f .kept .1 .1 .1 .0)))))
+    let r = c .before .before .before .read-or in
+    let at = c .before .before .before .before .before .before in
+    let q = at .before .before .before .before in
+    put-ready 2 (q .before .before .before .before .pre .1) (q .read-and .ensures) (at .before .level-at .ensures) (at .if1 .taken) (c .before .before .before .before .before .over .ensures) (r .ensures)
+    (r .kept .1 .1 .1 .0 ∙ q .read-and .kept .1 .1 .1 .0))
     -- read-or-same-length
-    (λ c. c .before .before .put .kept .1 .1 .1 .1 .1 .0 ∙ (c .before .before .before .before .before .before .read-or .kept .1 .1 .1 .0 ∙ c .before .before .before .before .before .before .before .before .before .before .before .before .before .read-and .kept .1 .1 .1 .0))
+    (λ c.
+    let r = c .before .before .before .before .before .before in
+    c .before .before .put .kept .1 .1 .1 .1 .1 .0 ∙ (r .read-or .kept .1 .1 .1 .0 ∙ r .before .before .before .before .before .before .before .read-and .kept .1 .1 .1 .0))
     -- read-or-returns
     (λ c.
-    let r = c .before .before .put .ensures in
-    joined _ 2 _ _ _ _ _ (c .before .before .before .before .before .before .before .before .before .before .before .before .before .read-and .ensures) _ (c .before .before .before .before .before .before .before .before .over .ensures) (sym (c .before .before .before .before .before .before .before .before .before .before .level-at .ensures .first) ∙ c .before .before .before .before .before .before .before .before .before .if1 .taken) _ _ (c .before .before .before .before .before .before .read-or .ensures) _ _ (r .0 .0) (r .0 .1 .0) (r .0 .1 .1) (r .1))
+    let r = c .before .before .before .before .before .before in
+    let at = r .before .before .before in
+    let q = at .before .before .before .before in
+    joined 2 (q .before .before .before .before .pre .1) (q .read-and .ensures) (at .before .level-at .ensures) (at .if1 .taken) (r .before .before .over .ensures) (r .read-or .ensures)
+    (c .before .before .put .ensures .0) (c .before .before .put .ensures .1))
     -- read-or-same-length-2
     (λ c. c .before .before .before .before .read-and .kept .1 .1 .1 .0)
     -- read-or-returns-2
-    (λ c. alone _ 2 _ _ _ _ _ (c .before .before .before .before .read-and .ensures) (λ e. c .if1 .left (c .before .level-at .ensures .first ∙ e))))
+    (λ c. alone 2 (c .before .before .before .before .read-and .ensures) (c .before .level-at .ensures) (c .if1 .left)))
     (λ t. read-prefix-lts.spec (
       over-reads.Asked,
       over-reads.Learnt,
@@ -250,49 +272,55 @@ pub +read-and+read-implies+read-or+read-prefix+read-until-spec : {M : Type 1} �
     (read-prefix-at t)
     read-prefix.Post
     -- read-prefix-shared-slice-read-b
-    (λ c. starts _ _ _ _ (c .before .before .before .pre .1))
+    (λ c. starts (c .before .before .before .pre .1))
     -- read-prefix-over-requires
-    (λ c κs. (c .before .before .before .pre .1 .no-blank, (starts _ _ _ _ (c .before .before .before .pre .1), omega (arith, c .before .before .before .pre .1 .few))))
+    (λ c κs.
+    let r = c .before .before .before .pre .1 in
+    (r .no-blank, (starts r, omega (arith, r .few))))
     -- read-prefix-is-open-requires
     (λ c κs. tt)
     -- read-prefix-read-implies-requires
     (λ c κs.
-    let ov = c .before .before .before .over .ensures in
-    (omega (arith, c .before .before .before .before .before .before .before .pre .0, ov .past, ov .within), within _ _ (c .before .before .before .before .before .before .before .args .p) (c .before .before .before .over .result) (c .before .before .before .over .ensures) (sym (c .before .before .is-open .ensures) ∙ c .before .if1 .taken) _ (c .before .before .before .before .before .before .before .pre .1)))
+    let q = c .before .before .before .over .ensures in
+    let a = c .before .before .before .before .before .before .before in (
+      omega (arith, a .pre .0, q .past, q .within),
+      within _ q (sym (c .before .before .is-open .ensures) ∙ c .before .if1 .taken) (a .pre .1),
+    ))
     -- read-prefix-over-requires-2
     (λ c κs.
-    let k = c .before .before .read-implies .ensures in
-    let w = within _ _ (c .before .before .before .before .before .before .before .before .before .before .args .p) (c .before .before .before .before .before .before .over .result) (c .before .before .before .before .before .before .over .ensures) (sym (c .before .before .before .before .before .is-open .ensures) ∙ c .before .before .before .before .if1 .taken) _ (c .before .before .before .before .before .before .before .before .before .before .pre .1) in
-    (k .no-blank, (ends _ _ (c .before .before .before .before .before .before .before .before .before .before .args .p) (c .before .before .before .before .before .before .over .result) (c .before .before .before .before .before .before .over .ensures) (sym (c .before .before .before .before .before .is-open .ensures) ∙ c .before .before .before .before .if1 .taken) _ _ _ k _ (c .before .before .before .before .before .before .before .before .before .before .pre .1), counts _ 4 _ _ _ _ _ _ w k .1)))
+    close-ready _ (c .before .before .before .before .before .before .over .ensures) (sym (c .before .before .before .before .before .is-open .ensures) ∙ c .before .before .before .before .if1 .taken) (c .before .before .before .before .before .before .before .before .before .before .pre .1) (c .before .before .read-implies .ensures))
     -- read-prefix-same-length
     (λ c. c .before .before .before .read-implies .kept .1 .1 .1 .0)
     -- read-prefix-returns
-    (λ c. wrapped _ _ (c .before .before .before .before .before .before .before .before .before .before .before .args .p) (c .before .before .before .before .before .before .before .over .result) (c .before .before .before .before .before .before .before .over .ensures) (sym (c .before .before .before .before .before .before .is-open .ensures) ∙ c .before .before .before .before .before .if1 .taken) _ _ _ (c .before .before .before .read-implies .ensures) _ (c .over2 .ensures))
+    (λ c.
+    wrapped _ (c .before .before .before .before .before .before .before .over .ensures) (sym (c .before .before .before .before .before .before .is-open .ensures) ∙ c .before .before .before .before .before .if1 .taken) (c .before .before .before .before .before .before .before .before .before .before .before .pre .1) (c .before .before .before .read-implies .ensures) (c .over2 .ensures))
     -- read-prefix-is-prefix-requires
     (λ c κs. tt)
     -- read-prefix-read-prefix-requires
     (λ c κs.
-    let ov = c .before .before .before .before .before .over .ensures in
-    (omega (arith, c .before .before .before .before .before .before .before .before .before .pre .0, ov .past, ov .within), below _ _ (c .before .before .before .before .before .before .before .before .before .args .p) (c .before .before .before .before .before .over .result) (c .before .before .before .before .before .over .ensures) (sym (c .before .before .is-prefix .ensures) ∙ c .before .if2 .taken) _ (c .before .before .before .before .before .before .before .before .before .pre .1)))
+    let q = c .before .before .before .before .before .over .ensures in
+    let a = c .before .before .before .before .before .before .before .before .before in (
+      omega (arith, a .pre .0, q .past, q .within),
+      below _ q (sym (c .before .before .is-prefix .ensures) ∙ c .before .if2 .taken) (a .pre .1),
+    ))
     -- read-prefix-put-requires
     (λ c κs.
-    let k = c .before .before .before .read-prefix in
-    let s : k .result .nodes < length (c .before .before .before .before .before .before .before .before .before .before .before .before .before .args .out .now) = below-space _ _ (c .before .before .before .before .before .before .before .before .before .before .before .before .before .args .p) (c .before .before .before .before .before .before .before .before .before .over .result) (c .before .before .before .before .before .before .before .before .before .over .ensures) (sym (c .before .before .before .before .before .before .is-prefix .ensures) ∙ c .before .before .before .before .before .if2 .taken) _ _ _ (k .ensures) _ (c .before .before .before .before .before .before .before .before .before .before .before .before .before .pre .1) in
-    (starts _ _ _ _ (c .before .before .before .before .before .before .before .before .before .before .before .before .before .pre .1), (omega arith, (omega (arith, c .before .before .before .before .before .before .before .before .before .before .before .before .before .pre .1 .few), omega (arith, k .kept .1 .1 .1 .0)))))
+    let r = c .before .before .before .read-prefix in
+    prefix-ready _ (c .before .before .before .before .before .before .before .before .before .over .ensures) (sym (c .before .before .before .before .before .before .is-prefix .ensures) ∙ c .before .before .before .before .before .if2 .taken) (c .before .before .before .before .before .before .before .before .before .before .before .before .before .pre .1) (r .ensures) (r .kept .1 .1 .1 .0))
     -- read-prefix-same-length-2
     (λ c. c .before .before .put .kept .1 .1 .1 .1 .1 .0 ∙ c .before .before .before .before .before .before .read-prefix .kept .1 .1 .1 .0)
     -- read-prefix-returns-2
     (λ c.
-    let r = c .before .before .put .ensures in
-    prefixed _ _ (c .before .before .before .before .before .before .before .before .before .before .before .before .before .before .before .before .args .p) (c .before .before .before .before .before .before .before .before .before .before .before .before .over .result) (c .before .before .before .before .before .before .before .before .before .before .before .before .over .ensures) (sym (c .before .before .before .before .before .before .before .before .before .is-prefix .ensures) ∙ c .before .before .before .before .before .before .before .before .if2 .taken) _ _ _ (c .before .before .before .before .before .before .read-prefix .ensures) _ _ (r .0 .0) (r .0 .1 .0) (r .0 .1 .1) (r .1))
+    let put = c .before .before .put .ensures in
+    prefixed _ (c .before .before .before .before .before .before .before .before .before .before .before .before .over .ensures) (sym (c .before .before .before .before .before .before .before .before .before .is-prefix .ensures) ∙ c .before .before .before .before .before .before .before .before .if2 .taken) (c .before .before .before .before .before .before .before .before .before .before .before .before .before .before .before .before .pre .1) (c .before .before .before .before .before .before .read-prefix .ensures) (put .0) (put .1))
     -- read-prefix-put-requires-2
-    (λ c κs. (starts _ _ _ _ (c .before .before .before .before .before .before .before .before .before .pre .1), (omega arith, (omega (arith, c .before .before .before .before .before .before .before .before .before .pre .1 .few), operand-space _ _ (c .before .before .before .before .before .before .before .before .before .args .p) (c .before .before .before .before .before .over .result) (c .before .before .before .before .before .over .ensures) _ (c .before .before .before .before .before .before .before .before .before .pre .1)))))
+    (λ c κs. operand-ready _ (c .before .before .before .before .before .over .ensures) (c .before .before .before .before .before .before .before .before .before .pre .1))
     -- read-prefix-same-length-3
     (λ c. c .before .before .put2 .kept .1 .1 .1 .1 .1 .0)
     -- read-prefix-returns-3
     (λ c.
-    let r = c .before .before .put2 .ensures in
-    single _ _ (c .before .before .before .before .before .before .before .before .before .before .before .before .args .p) (c .before .before .before .before .before .before .before .before .over .result) (c .before .before .before .before .before .before .before .before .over .ensures) (sym (c .before .before .before .before .before .before .before .is-open .ensures) ∙ c .before .before .before .before .before .before .if1 .left) (sym (c .before .before .before .before .before .is-prefix .ensures) ∙ c .before .before .before .before .if2 .left) _ _ _ (r .0 .0) (r .0 .1 .0) (r .0 .1 .1) (r .1)))
+    let put = c .before .before .put2 .ensures in
+    single _ (c .before .before .before .before .before .before .before .before .over .ensures) (sym (c .before .before .before .before .before .before .before .is-open .ensures) ∙ c .before .before .before .before .before .before .if1 .left) (sym (c .before .before .before .before .before .is-prefix .ensures) ∙ c .before .before .before .before .if2 .left) (put .0) (put .1)))
     λ t. read-until-lts.spec (
       read-prefix-below t,
       read-prefix.Post,
@@ -308,36 +336,43 @@ pub +read-and+read-implies+read-or+read-prefix+read-until-spec : {M : Type 1} �
     (read-until-at t)
     read-until.Post
     -- read-until-read-prefix-requires
-    (λ c κs. (omega (arith, c .before .before .before .pre .0), down _ 0 _ _ _ (c .before .before .before .pre .1)))
+    (λ c κs.
+    let a = c .before .before .before in
+    (omega (arith, a .pre .0), down 0 (a .pre .1)))
     -- read-until-level-at-requires
     (λ c κs. c .before .before .read-prefix .ensures .no-blank)
     -- read-until-over-requires
     (λ c κs.
-    let g = c .before .before .before .before .read-prefix .ensures in
-    let a = c .before .before .before .before .before .before .before .before in
-    (g .no-blank, (c .before .level-at .ensures .inside (omega (arith, c .if1 .taken)), counts _ 0 _ _ _ _ _ _ (down _ 0 _ _ _ (a .pre .1)) g .1)))
+    let q = c .before .before .before .before in
+    over-ready 0 (q .before .before .before .before .pre .1) (q .read-prefix .ensures) (c .before .level-at .ensures) (c .if1 .taken))
     -- read-until-read-until-requires
     (λ c κs.
-    let g = c .before .before .before .before .before .before .read-prefix in
-    let a = c .before .before .before .before .before .before .before .before .before .before in
-    let ov = c .before .over .ensures in
-    (omega (arith, a .pre .0, g .ensures .past, ov .past, ov .within), subst (λ (n : ℕ). Readable (a .args .i) 1 (a .args .text .now) (c .before .over .result) n) (sym (g .kept .1 .1 .1 .0)) (right _ 0 _ _ _ _ _ (g .ensures) _ ov (sym (c .before .before .before .level-at .ensures .first) ∙ c .before .before .if1 .taken) _ (a .pre .1))))
+    let o = c .before .over .ensures in
+    let level = c .before .before .before .level-at .ensures in
+    let q = c .before .before .before .before .before .before in
+    let a = q .before .before .before .before in (
+      omega (arith, a .pre .0, q .read-prefix .ensures .past, o .past, o .within),
+      right 0 (a .pre .1) (q .read-prefix .ensures) level (c .before .before .if1 .taken) o (q .read-prefix .kept .1 .1 .1 .0),
+    ))
     -- read-until-put-requires
     (λ c κs.
-    let g = c .before .before .before .before .before .before .before .before .before .before .read-prefix in
-    let f = c .before .before .before .read-until in
-    let a = c .before .before .before .before .before .before .before .before .before .before .before .before .before .before in
-    let lev = c .before .before .before .before .before .before .before .level-at .ensures in
-    let n = counts _ 0 _ _ _ _ _ _ (down _ 0 _ _ _ (a .pre .1)) (g .ensures) in
-    let s : f .result .nodes < length (a .args .out .now) = space _ 0 _ _ _ _ _ (g .ensures) _ (c .before .before .before .before .before .over .ensures) (sym (lev .first) ∙ c .before .before .before .before .before .before .if1 .taken) _ _ (f .ensures) _ (a .pre .1) in
-    (lev .inside (omega (arith, c .before .before .before .before .before .before .if1 .taken)), (omega (arith, n .0, n .2), (n .1, omega (arith, g .kept .1 .1 .1 .0, f .kept .1 .1 .1 .0)))))
+    let r = c .before .before .before .read-until in
+    let at = c .before .before .before .before .before .before in
+    let q = at .before .before .before .before in
+    put-ready 0 (q .before .before .before .before .pre .1) (q .read-prefix .ensures) (at .before .level-at .ensures) (at .if1 .taken) (c .before .before .before .before .before .over .ensures) (r .ensures)
+    (r .kept .1 .1 .1 .0 ∙ q .read-prefix .kept .1 .1 .1 .0))
     -- read-until-same-length
-    (λ c. c .before .before .put .kept .1 .1 .1 .1 .1 .0 ∙ (c .before .before .before .before .before .before .read-until .kept .1 .1 .1 .0 ∙ c .before .before .before .before .before .before .before .before .before .before .before .before .before .read-prefix .kept .1 .1 .1 .0))
+    (λ c.
+    let r = c .before .before .before .before .before .before in
+    c .before .before .put .kept .1 .1 .1 .1 .1 .0 ∙ (r .read-until .kept .1 .1 .1 .0 ∙ r .before .before .before .before .before .before .before .read-prefix .kept .1 .1 .1 .0))
     -- read-until-returns
     (λ c.
-    let r = c .before .before .put .ensures in
-    joined _ 0 _ _ _ _ _ (c .before .before .before .before .before .before .before .before .before .before .before .before .before .read-prefix .ensures) _ (c .before .before .before .before .before .before .before .before .over .ensures) (sym (c .before .before .before .before .before .before .before .before .before .before .level-at .ensures .first) ∙ c .before .before .before .before .before .before .before .before .before .if1 .taken) _ _ (c .before .before .before .before .before .before .read-until .ensures) _ _ (r .0 .0) (r .0 .1 .0) (r .0 .1 .1) (r .1))
+    let r = c .before .before .before .before .before .before in
+    let at = r .before .before .before in
+    let q = at .before .before .before .before in
+    joined 0 (q .before .before .before .before .pre .1) (q .read-prefix .ensures) (at .before .level-at .ensures) (at .if1 .taken) (r .before .before .over .ensures) (r .read-until .ensures)
+    (c .before .before .put .ensures .0) (c .before .before .put .ensures .1))
     -- read-until-same-length-2
     (λ c. c .before .before .before .before .read-prefix .kept .1 .1 .1 .0)
     -- read-until-returns-2
-    (λ c. alone _ 0 _ _ _ _ _ (c .before .before .before .before .read-prefix .ensures) (λ e. c .if1 .left (c .before .level-at .ensures .first ∙ e)))
+    (λ c. alone 0 (c .before .before .before .before .read-prefix .ensures) (c .before .level-at .ensures) (c .if1 .left))

@@ -1,3 +1,4 @@
+-- `reader::levels::is_open` meets its contract: each arm is a clause of `isOpen`. Assumes nothing.
 use borrow.Author.Needs.{needs}
 use mathlib.Core.Path.{sym, ap, _∙_}
 use Rattle.reader.specs.Steps.{isOpen}

@@ -1,3 +1,4 @@
+-- `reader::levels::level_at` meets its contract: each arm returns what `levelOf` gives for its kind. Assumes nothing.
 use borrow.Author.Needs.{needs}
 use mathlib.Core.Path.{sym, ap}
 use Rattle.reader.specs.Steps.{levelOf}

@@ -1,4 +1,5 @@
-use mathlib.Core.Path.{_≡_, sym, ap, _∙_}
+-- `reader::levels::node` meets its contract: each arm is a clause of `nodeOf`; an operand's argument fits since `i` is a byte. Assumes nothing.
+use mathlib.Core.Path.{_≡_, sym, _∙_}
 use native.Mathlib.Omega.{arith}
 use Rattle.reader.specs.declared.marks.Kind.the-variants.{Operand}
 use Rattle.reader.specs.Marks.{kindOf}
@@ -6,14 +7,6 @@ use Rattle.reader.proofs.MarkLaws.{argument-small}
 use borrow.Author.Needs.{needs}
 use Rattle.reader.proofs.levels.node.Statement.{statement}
 use Rattle.reader.proofs.levels.node.Tie as tie
-use Rattle.reader.proofs.levels.node.Reads as reads
-use Rattle.reader.proofs.levels.node.Lts as lts
-use Rattle.reader.proofs.levels.word.Reads as word-reads
-use Rattle.reader.proofs.marks.infix_kind.Reads as infix-kind-reads
-use Rattle.reader.proofs.marks.kind_of.Reads as kind-of-reads
-use Rattle.reader.proofs.marks.operand_argument.Reads as operand-argument-reads
-use Rattle.reader.proofs.marks.operand_kind.Reads as operand-kind-reads
-use Rattle.reader.proofs.marks.prefix_kind.Reads as prefix-kind-reads
 
 kind-of-requires : tie.Need-kind-of-requires
 kind-of-requires c κs = search needs

@@ -1,3 +1,4 @@
+-- `reader::levels::over` meets its contract: the blanks after the mark are skipped, and a temporal mark takes a coordinate. Assumes nothing.
 use borrow.Author.Needs.{needs}
 use mathlib.Core.Path.{refl, sym, _∙_}
 use Rattle.reader.proofs.TextLaws.{past-mark, tick-on, tick-off}

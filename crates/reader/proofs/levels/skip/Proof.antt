@@ -1,6 +1,8 @@
+-- `reader::levels::skip` meets its contract. The invariant: from `k` on the text has the marks that it has from `at` on.
+-- The measure is the number of bytes left. Assumes nothing.
 use borrow.Author.Needs.{needs}
-use mathlib.Core.Path.{_≡_, refl, _∙_}
-use Prim.Native.Nat.{ℕ, _+_, _-_, _≤_, _<_}
+use mathlib.Core.Path.{_≡_, _∙_}
+use Prim.Native.Nat.{_-_, _≤_}
 use native.Mathlib.Omega.{arith}
 use lib.ListN.{length, drop}
 use Rattle.reader.specs.Grammar.{marks}

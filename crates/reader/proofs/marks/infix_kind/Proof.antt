@@ -1,4 +1,4 @@
-use borrow.Author.Needs.{needs}
+-- `reader::marks::infix_kind` meets its contract: at each return the tests before it, put into `binaryOf`, leave the operator of that number. Assumes nothing.
 use borrow.Author.Tests.{eq-eqb, ne-eqb}
 use Rattle.reader.specs.Marks.{binaryOf}
 use Rattle.reader.proofs.marks.infix_kind.Statement.{statement}

@@ -1,3 +1,4 @@
+-- `reader::marks::is_temporal` meets its contract: it is `among` on the six temporal marks. Assumes nothing.
 use borrow.Author.Needs.{needs}
 use Rattle.reader.specs.Marks.{isTemporal}
 use Rattle.reader.proofs.marks.is_temporal.Statement.{statement}

@@ -1,4 +1,4 @@
-use borrow.Author.Needs.{needs}
+-- `reader::marks::prefix_kind` meets its contract: at each return the tests before it, put into `unaryOf`, leave the operator of that number. Assumes nothing.
 use borrow.Author.Tests.{eq-eqb, ne-eqb}
 use Rattle.reader.specs.Marks.{unaryOf}
 use Rattle.reader.proofs.marks.prefix_kind.Statement.{statement}

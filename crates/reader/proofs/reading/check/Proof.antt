@@ -1,6 +1,6 @@
 -- `reader::reading::check` meets its contract: each answer follows from what the pass came to and from the two counts. Assumes nothing.
 use borrow.Author.Needs.{needs}
-use mathlib.Core.Path.{_≡_, sym, subst, _∙_}
+use mathlib.Core.Path.{sym, subst, _∙_}
 use Prim.Native.Nat.{ℕ}
 use native.Mathlib.Omega.{arith}
 use Rattle.reader.specs.declared.reading.Reading.the-variants.{Good}

@@ -39,10 +39,9 @@ same-length c = search needs
 returns : tie.Need-returns
 returns c =
     let at = c .before .before .before .before .before .before .before .before in
-    let a = at .before .before .before .args in
-    (
+    let a = at .before .before .before .args in (
       same-reading (a .i) (a .o) (a .temporal) (a .text .now) (c .before .before .before .before .before .before .found .given .1) (at .check .ensures),
-      written (a .i) (a .o) (a .temporal) (a .text .now) _ (c .before .before .before .before .skip .ensures) refl refl _ _ _ _ (c .before .before .read-implies .ensures)
+      written (a .i) (a .o) (a .temporal) (a .text .now) _ (c .before .before .before .before .skip .ensures) refl refl _ _ _ _ (c .before .before .read-implies .ensures),
     )
 
 returns-2 : tie.Need-returns-2

@@ -1,3 +1,4 @@
+-- `reader::refusal::condition_refusal` meets its contract: each arm is a clause of `afterCondition`. Assumes nothing.
 use borrow.Author.Needs.{needs}
 use Rattle.reader.proofs.refusal.condition_refusal.Statement.{statement}
 use Rattle.reader.proofs.refusal.condition_refusal.Tie as tie

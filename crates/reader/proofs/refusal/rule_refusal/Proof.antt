@@ -1,3 +1,4 @@
+-- `reader::refusal::rule_refusal` meets its contract: each arm is a clause of `afterRule`. Assumes nothing.
 use borrow.Author.Needs.{needs}
 use Rattle.reader.proofs.refusal.rule_refusal.Statement.{statement}
 use Rattle.reader.proofs.refusal.rule_refusal.Tie as tie

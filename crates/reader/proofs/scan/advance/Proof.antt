@@ -1,3 +1,4 @@
+-- `reader::scan::advance` meets its contract: a blank changes nothing, a byte out of reach is of the kind `Other`, and every other byte is a mark. Assumes nothing.
 use borrow.Author.Needs.{needs}
 use mathlib.Core.Path.{sym, _∙_}
 use borrow.Author.Tests.{eq-eqb, ne-eqb}

@@ -1,17 +1,9 @@
+-- `reader::scan::mark_step` meets its contract: each arm is a clause of `markStep`. Assumes nothing.
 use borrow.Author.Needs.{needs}
-use mathlib.Core.Path.{_≡_, refl, sym, ap, _∙_}
-use mathlib.Core.Bool.{Bool, true, false}
-use Prim.Native.Nat.{ℕ, zero, suc, _-_}
-use native.Mathlib.Numerals.{add-one, sub-one}
-use Rattle.reader.specs.declared.marks.Kind.the-variants.{Close}
-use Rattle.reader.specs.declared.scan.Step.the-variants.{Next}
-use Rattle.reader.specs.Scan.{markStep}
+use native.Mathlib.Numerals.{add-one}
+use Rattle.reader.proofs.ScanLaws.{close-open}
 use Rattle.reader.proofs.scan.mark_step.Statement.{statement}
 use Rattle.reader.proofs.scan.mark_step.Tie as tie
-
-close-open : (d : ℕ) → (d ≡ 0 → ⊥) → Next false (d - 1) ≡ markStep Close false d
-close-open zero h = absurd (h refl)
-close-open (suc d) h = ap (λ (n : ℕ). Next false n) (sub-one (suc d))
 
 pub mark-step-spec : {M : Type 1} → statement M
 mark-step-spec =

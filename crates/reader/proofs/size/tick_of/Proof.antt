@@ -1,3 +1,4 @@
+-- `reader::size::tick_of` meets its contract, by the two cases of its test. Assumes nothing.
 use borrow.Author.Needs.{needs}
 use mathlib.Core.Path.{sym, _∙_}
 use Rattle.reader.specs.Counts.{tick}

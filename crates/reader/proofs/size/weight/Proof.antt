@@ -1,3 +1,4 @@
+-- `reader::size::weight` meets its contract: each arm is a clause of `weightOf`. Assumes nothing.
 use borrow.Author.Needs.{needs}
 use mathlib.Core.Path.{sym, _∙_}
 use native.Mathlib.Omega.{arith}

@@ -1,13 +1,13 @@
 // The condition call: the mask of a condition.
 ghost use Rattle.automaton.specs.Condition.{Conditioned};
-use reader::reading::Reading;
-use reader::reading::read;
-use reader::refusal::Refusal;
-use reader::refusal::condition_refusal;
 use crate::alphabet::bad_alphabet;
 use crate::alphabet::power;
 use crate::alphabet::too_long;
 use crate::mask::condition_mask;
+use reader::reading::Reading;
+use reader::reading::read;
+use reader::refusal::Refusal;
+use reader::refusal::condition_refusal;
 
 // The answer: the mask, bit x for input number x, or a refusal.
 pub enum Assumption {

@@ -7,10 +7,6 @@ ghost use Rattle.automaton.specs.Limits.{stateLimit};
 ghost use Rattle.automaton.specs.Representation.{Represents};
 ghost use Rattle.automaton.specs.Exploration.{BuiltAutomaton};
 ghost use Rattle.automaton.specs.Construction.{shortAutomaton, Constructed};
-use reader::reading::Reading;
-use reader::reading::read;
-use reader::refusal::Refusal;
-use reader::refusal::rule_refusal;
 use crate::alphabet::bad_alphabet;
 use crate::alphabet::power;
 use crate::alphabet::too_long;
@@ -18,6 +14,10 @@ use crate::explore::build;
 use crate::operators::operator_count;
 use crate::tabulate::tabulate;
 use crate::valuation::end_vector;
+use reader::reading::Reading;
+use reader::reading::read;
+use reader::refusal::Refusal;
+use reader::refusal::rule_refusal;
 
 // The answer: the number of states, or a refusal.
 pub enum Construction {

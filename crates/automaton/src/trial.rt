@@ -1,15 +1,15 @@
 // The trial call: whether a list of letters satisfies a rule.
 ghost use Rattle.automaton.specs.Trial.{Tried};
-use reader::reading::Reading;
-use reader::reading::read;
-use reader::refusal::Refusal;
-use reader::refusal::rule_refusal;
 use crate::alphabet::bad_alphabet;
 use crate::alphabet::first_over;
 use crate::alphabet::power;
 use crate::alphabet::too_long;
 use crate::fold::satisfied;
 use crate::operators::operator_count;
+use reader::reading::Reading;
+use reader::reading::read;
+use reader::refusal::Refusal;
+use reader::refusal::rule_refusal;
 
 // The answer: whether the list satisfies the rule, or a refusal.
 pub enum Trial {

@@ -1,7 +1,7 @@
 -- The refusals of the call for a given automaton: which test decides, and what is known where none does.
 -- Assumes nothing.
 use Prim.Native.Nat.{ℕ, _+_, _*_, _<_, _≤_}
-use mathlib.Core.Path.{_≡_, refl, ap, subst}
+use mathlib.Core.Path.{_≡_, refl, sym, ap, _∙_, subst}
 use mathlib.Core.Bool.{Bool, true, false, cond, _||_}
 use mathlib.Core.List.{List}
 use native.Mathlib.Omega.{arith}
@@ -11,17 +11,19 @@ use lib.Seq.{getD-take, length-take-le}
 use borrow.Author.Tests.{le-leb, lt-leb, leb-false, lt-ltb, le-ltb, ltb-false}
 use Rattle.reader.specs.declared.refusal.Refusal.{Refusal}
 use Rattle.reader.specs.declared.refusal.Refusal.the-variants.{Nothing, Alphabet, Buffer, GivenCount, Move, State, Value}
-use Rattle.reader.specs.Refusal.{numberOf}
+use Rattle.reader.specs.Refusal.{numberOf, placeOf}
 use Rattle.automaton.specs.Limits.{stateLimit}
 use Rattle.automaton.specs.Alphabet.{badAlphabet}
 use Rattle.automaton.specs.Trial.{firstOver}
 use Rattle.automaton.proofs.FirstOverLaws.{none-over, letter-at}
 use Rattle.game.specs.declared.answer.Answer.the-variants.{Refused}
+use Rattle.game.specs.Answer.{verdictOf}
 use Rattle.game.specs.Arena.{Arena, arena}
 use Rattle.game.specs.Rank.{Valid}
 use Rattle.game.specs.Tables.{Tables, Verdict}
-use Rattle.game.specs.Given.{badCount, moveCount, shortRead, shortTables, badMask, laterRefusal, givenRefusal, verdictOf, Solved}
+use Rattle.game.specs.Given.{badCount, moveCount, shortRead, shortTables, badMask, laterRefusal, givenRefusal, Solved}
 use Rattle.reader.proofs.BoolLaws.{on, or-left, or-right}
+use Rattle.game.proofs.AnswerLaws.{verdict-number, verdict-place}
 use Rattle.game.proofs.CheckLaws.{in-range, transitions-long, accepting-long}
 
 -- the test that decides, in the order 3, 12, 11, 13
@@ -140,9 +142,9 @@ accepted i o start n transitions flags mask σ τ e =
 
 -- the promise of a refused call, and of a served one
 pub solved-refused : (refusal : Refusal) (fair : Bool) (start : ℕ) (G : Arena) (σ τ : List ℕ) → (refusal ≡ Nothing → ⊥) → Solved refusal fair start G σ τ σ τ (Refused refusal)
-solved-refused refusal fair start G σ τ ne = record { refused = λ _. (refl, refl, refl); served = λ e. absurd (ne e) }
+solved-refused refusal fair start G σ τ ne = record { number = refl; place = refl; refused = λ _. (refl, refl, refl); served = λ e. absurd (ne e) }
 
 pub solved-served : (refusal : Refusal) (fair : Bool) (start : ℕ) (G : Arena) (σ₀ τ₀ σ τ : List ℕ) (can : Bool) → refusal ≡ Nothing → Tables fair G σ₀ τ₀ σ τ
     → Verdict fair G σ τ start can → Solved refusal fair start G σ₀ τ₀ σ τ (verdictOf can (G .states))
 solved-served refusal fair start G σ₀ τ₀ σ τ can e t v =
-    record { refused = λ ne. absurd (ne e); served = λ _. (can, refl, t, v) }
+    record { number = verdict-number can (G .states) ∙ sym (ap numberOf e); place = verdict-place can (G .states) ∙ sym (ap placeOf e); refused = λ ne. absurd (ne e); served = λ _. (can, refl, t, v) }

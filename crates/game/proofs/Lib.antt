@@ -1,3 +1,4 @@
+pub mod AnswerLaws
 pub mod IndexLaws
 pub mod CaseLaws
 pub mod LimitLaws
@@ -16,4 +17,6 @@ pub mod RefusalLaws
 pub mod GivenLaws
 pub mod FollowLaws
 pub mod RuleLaws
+pub mod RuleCheckLaws
+pub mod RuleCallLaws
 pub mod Determined

@@ -9,11 +9,13 @@ use lib.Dec.{eqb, ltb, leb}
 use lib.ListN.{length, take}
 use Rattle.reader.specs.declared.refusal.Refusal.{Refusal}
 use Rattle.reader.specs.declared.refusal.Refusal.the-variants.{Nothing, Alphabet, Buffer, GivenCount, Move, State, Value}
+use Rattle.reader.specs.Refusal.{numberOf, placeOf}
 use Rattle.automaton.specs.Limits.{stateLimit}
 use Rattle.automaton.specs.Alphabet.{badAlphabet}
 use Rattle.automaton.specs.Trial.{afterList}
 use Rattle.game.specs.declared.answer.Answer.{Answer}
-use Rattle.game.specs.declared.answer.Answer.the-variants.{Can, Cannot, Refused}
+use Rattle.game.specs.declared.answer.Answer.the-variants.{Refused}
+use Rattle.game.specs.Answer.{answerNumber, answerPlace, verdictOf}
 use Rattle.game.specs.Arena.{Arena}
 use Rattle.game.specs.Tables.{Tables, Verdict}
 
@@ -49,12 +51,10 @@ laterRefusal start G σ τ =
 unfoldable pub givenRefusal : ℕ → ℕ → ℕ → Arena → List ℕ → List ℕ → Refusal
 givenRefusal i o start G σ τ = cond (badAlphabet i o) Alphabet (cond (badCount (G .states)) GivenCount (laterRefusal start G σ τ))
 
--- the answer of a served call on n states
-abbrev pub verdictOf : Bool → ℕ → Answer
-verdictOf can n = cond can (Can n) (Cannot n)
-
--- the promise with this refusal coming first: the answer and both tables on every input
+-- the promise with this refusal coming first: 01's number and place, the answer and both tables on every input
 pub record Solved (refusal : Refusal) (fair : Bool) (start : ℕ) (G : Arena) (σ₀ τ₀ σ τ : List ℕ) (r : Answer) : Type 0 where
+  pub number : answerNumber r ≡ numberOf refusal
+  pub place : answerPlace r ≡ placeOf refusal
   pub refused : (refusal ≡ Nothing → ⊥) → (r ≡ Refused refusal) × (σ ≡ σ₀) × (τ ≡ τ₀)
   pub served : refusal ≡ Nothing → (can : Bool) × (r ≡ verdictOf can (G .states)) × Tables fair G σ₀ τ₀ σ τ × Verdict fair G σ τ start can
 

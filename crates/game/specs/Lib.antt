@@ -1,3 +1,4 @@
+pub mod Answer
 pub mod Arena
 pub mod Play
 pub mod Strategy
@@ -9,3 +10,4 @@ pub mod Checks
 pub mod Given
 pub mod Follower
 pub mod Rule
+pub mod RuleChecks

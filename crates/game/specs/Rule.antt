@@ -12,20 +12,20 @@ use Rattle.reader.specs.declared.refusal.Refusal.the-variants.{Nothing, Alphabe
 use Rattle.reader.specs.Formula.{Formula}
 use Rattle.reader.specs.Marks.{ruleKind, conditionKind}
 use Rattle.reader.specs.Reading.{ReadingOf, IsGood}
-use Rattle.reader.specs.Refusal.{afterRule, afterCondition}
+use Rattle.reader.specs.Refusal.{numberOf, placeOf, afterRule, afterCondition}
 use Rattle.automaton.specs.Limits.{stateLimit}
 use Rattle.automaton.specs.Alphabet.{badAlphabet, tooLong, letterCount}
 use Rattle.automaton.specs.Trace.{Satisfies}
-use Rattle.automaton.specs.Automaton.{Automaton, TooManyStates, Cleared}
+use Rattle.automaton.specs.Automaton.{Automaton, Cleared}
 use Rattle.automaton.specs.Construction.{CountOf, shortAutomaton, Over}
 use Rattle.automaton.specs.Condition.{Judges}
 use Rattle.game.specs.declared.answer.Answer.{Answer}
 use Rattle.game.specs.declared.answer.Answer.the-variants.{Refused}
+use Rattle.game.specs.Answer.{answerNumber, answerPlace, verdictOf}
 use Rattle.game.specs.Arena.{Arena, arena}
 use Rattle.game.specs.Play.{Step, run, letters, Along}
 use Rattle.game.specs.Strategy.{systemByte, environmentByte, BySystem, ByEnvironment, Assumed, Failed}
 use Rattle.game.specs.Tables.{Tables, Verdict}
-use Rattle.game.specs.Given.{verdictOf}
 
 -- a beginning of the play, its first k steps for a k from 1 to its length, satisfies the rule
 abbrev pub Satisfied : Formula → Arena → List Step → Type 0
@@ -44,27 +44,30 @@ pub record Cannot (fair : Bool) (φ : Formula) (G : Arena) (τ : List ℕ) : Typ
   pub keeping : (p : List Step) → Along G (ByEnvironment G τ) 0 p → Failed fair G p → ⊥
   pub answers : (p : List Step) → Along G (ByEnvironment G τ) 0 p → environmentByte τ (run G 0 p) < G .inputs
 
--- the buffers are too short for 128 states
-abbrev pub shortBuffers : ℕ → ℕ → List ℕ → List ℕ → List ℕ → List ℕ → Bool
-shortBuffers i o transitions accepting σ τ =
-    shortAutomaton (letterCount i o) transitions accepting || (ltb (length σ) (stateLimit * 2 ^ i) || ltb (length τ) stateLimit)
-
--- the refusal that comes first, for texts with the readings ρ and κ and a rule with n states
-unfoldable pub ruleRefusal : ℕ → ℕ → List ℕ → List ℕ → List ℕ → List ℕ → List ℕ → List ℕ → Reading → Reading → ℕ → Refusal
-ruleRefusal i o rule condition transitions accepting σ τ ρ κ n =
-    cond (badAlphabet i o) Alphabet
-    (cond (tooLong rule || tooLong condition) TextLength
-    (cond (shortBuffers i o transitions accepting σ τ) Buffer
-    (afterRule ρ
-    (afterCondition κ
-    (cond (ltb stateLimit n) StateCount Nothing)))))
-
--- the four buffers, in the order transitions, accepting flags, system's table, environment's table
+-- the four buffers that are lent: transitions, accepting flags, the system's table and the environment's
 pub record Buffers : Type 0 where
   pub transitions : List ℕ
   pub accepting : List ℕ
   pub system : List ℕ
   pub environment : List ℕ
+
+abbrev pub buffers : List ℕ → List ℕ → List ℕ → List ℕ → Buffers
+buffers t a σ τ = record { transitions = t; accepting = a; system = σ; environment = τ }
+
+-- refusal 3: a buffer is too short for 128 states
+abbrev pub shortBuffers : ℕ → ℕ → Buffers → Bool
+shortBuffers i o old =
+    shortAutomaton (letterCount i o) (old .transitions) (old .accepting) || (ltb (length (old .system)) (stateLimit * 2 ^ i) || ltb (length (old .environment)) stateLimit)
+
+-- the refusal that comes first, for texts with the readings ρ and κ and a rule with n states
+unfoldable pub ruleRefusal : ℕ → ℕ → List ℕ → List ℕ → Buffers → Reading → Reading → ℕ → Refusal
+ruleRefusal i o rule condition old ρ κ n =
+    cond (badAlphabet i o) Alphabet
+    (cond (tooLong rule || tooLong condition) TextLength
+    (cond (shortBuffers i o old) Buffer
+    (afterRule ρ
+    (afterCondition κ
+    (cond (ltb stateLimit n) StateCount Nothing)))))
 
 -- a served call: the formulas of the two texts, the automaton, both tables, the verdict and what it promises
 pub record Served (fair : Bool) (i o : ℕ) (rule condition : List ℕ) (old new : Buffers) (n : ℕ) (can : Bool) : Type 0 where
@@ -82,7 +85,7 @@ pub record Served (fair : Bool) (i o : ℕ) (rule condition : List ℕ) (old new
   pub can-promise : can ≡ true → Can fair formula (arena i o n (new .transitions) (new .accepting) mask) (new .system)
   pub cannot-promise : can ≡ false → Cannot fair formula (arena i o n (new .transitions) (new .accepting) mask) (new .environment)
 
--- the whole promise: the answer and the four buffers on every input
+-- the whole promise: 01's number and place, the answer and the four buffers on every input
 pub record RuleSolved (fair : Bool) (i o : ℕ) (rule condition : List ℕ) (old new : Buffers) (r : Answer) : Type 0 where
   pub reading : Reading
   pub read : ReadingOf i (ruleKind i o) rule reading
@@ -91,7 +94,9 @@ pub record RuleSolved (fair : Bool) (i o : ℕ) (rule condition : List ℕ) (old
   pub states : ℕ
   pub counted : CountOf i o rule states
   pub refusal : Refusal
-  pub first : refusal ≡ ruleRefusal i o rule condition (old .transitions) (old .accepting) (old .system) (old .environment) reading condition-reading states
+  pub first : refusal ≡ ruleRefusal i o rule condition old reading condition-reading states
+  pub number : answerNumber r ≡ numberOf refusal
+  pub place : answerPlace r ≡ placeOf refusal
   pub served : refusal ≡ Nothing → (can : Bool) × (r ≡ verdictOf can states) × Served fair i o rule condition old new states can
   pub refused : (refusal ≡ Nothing → ⊥) → (r ≡ Refused refusal) × (new .system ≡ old .system) × (new .environment ≡ old .environment)
   pub over : refusal ≡ StateCount → Over i o rule (old .transitions) (old .accepting) (new .transitions) (new .accepting)

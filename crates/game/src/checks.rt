@@ -6,9 +6,9 @@ ghost use Rattle.game.specs.Arena.{isFair};
 ghost use Rattle.game.specs.Rank.{arenaOf};
 ghost use Rattle.game.specs.Checks.{gameOf, InRange};
 ghost use Rattle.game.specs.Given.{badCount, shortRead};
-use automaton::alphabet::power;
 use crate::answer::Mode;
 use crate::arena::Game;
+use automaton::alphabet::power;
 
 // Whether there are no states or more than 128.
 pub(crate) fn bad_count(n: usize) -> bool

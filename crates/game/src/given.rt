@@ -15,7 +15,8 @@ use crate::checks::bad_count;
 use crate::checks::game_of;
 use crate::checks::short_read;
 use crate::tables::decide;
-use automaton::alphabet::{bad_alphabet, first_over};
+use automaton::alphabet::bad_alphabet;
+use automaton::alphabet::first_over;
 use reader::refusal::Refusal;
 
 // Whether a table is too short for 128 states.

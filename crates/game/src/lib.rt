@@ -4,5 +4,6 @@ mod arena;
 mod checks;
 pub mod follow;
 pub mod given;
+pub mod rule;
 mod solve;
 mod tables;

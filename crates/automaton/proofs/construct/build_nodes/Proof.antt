@@ -47,8 +47,7 @@ returns : tie.Need-returns
 returns c =
     let b = c .before .before .before .before in
     let t = b .before .before .before .before in
-    let e = t .before in
-    (
+    let e = t .before in (
       λ φ r. b .build .ensures .0 φ (t .tabulate .ensures φ r (width-is (e .before) φ r)) (width-is (e .before) φ r) (e .end-vector .ensures .0 φ r (width-is (e .before) φ r)),
       b .build .ensures .1,
     )

@@ -15,7 +15,8 @@ use Rattle.game.specs.declared.answer.Answer.the-variants.{Refused}
 use Rattle.game.specs.Arena.{Arena, arena, isFair}
 use Rattle.game.specs.Rank.{arenaOf, Valid}
 use Rattle.game.specs.Tables.{Tables, Verdict}
-use Rattle.game.specs.Given.{givenRefusal, verdictOf, Solved}
+use Rattle.game.specs.Answer.{verdictOf}
+use Rattle.game.specs.Given.{givenRefusal, Solved}
 use Rattle.game.proofs.RefusalLaws.{is-refused}
 use Rattle.game.proofs.GivenLaws.{Accepted, accepted, solved-refused, solved-served}
 use Rattle.game.proofs.given.solve_given.Statement.{statement}

@@ -1,0 +1,14 @@
+-- A verdict has no number and no place of a refusal.
+-- Assumes nothing.
+use Prim.Native.Nat.{ℕ}
+use mathlib.Core.Path.{_≡_, refl}
+use mathlib.Core.Bool.{Bool, true, false}
+use Rattle.game.specs.Answer.{answerNumber, answerPlace, verdictOf}
+
+pub verdict-number : (can : Bool) (n : ℕ) → answerNumber (verdictOf can n) ≡ 0
+verdict-number true n = refl
+verdict-number false n = refl
+
+pub verdict-place : (can : Bool) (n : ℕ) → answerPlace (verdictOf can n) ≡ 0
+verdict-place true n = refl
+verdict-place false n = refl

@@ -1,0 +1,23 @@
+-- The answers of the two calls that solve a game, the declared type `Answer`, in 01's numbers.
+-- Assumes nothing.
+use Prim.Native.Nat.{ℕ}
+use mathlib.Core.Bool.{Bool, cond}
+use Rattle.reader.specs.Refusal.{numberOf, placeOf}
+use Rattle.game.specs.declared.answer.Answer.{Answer}
+use Rattle.game.specs.declared.answer.Answer.the-variants.{Can, Cannot, Refused}
+
+-- 01's number of every answer: 0 for a verdict
+abbrev pub answerNumber : Answer → ℕ
+answerNumber (Can n) = 0
+answerNumber (Cannot n) = 0
+answerNumber (Refused x) = numberOf x
+
+-- the place that goes with it: 0 where there is none
+abbrev pub answerPlace : Answer → ℕ
+answerPlace (Can n) = 0
+answerPlace (Cannot n) = 0
+answerPlace (Refused x) = placeOf x
+
+-- the verdict of a served call on n states
+abbrev pub verdictOf : Bool → ℕ → Answer
+verdictOf can n = cond can (Can n) (Cannot n)

@@ -1,0 +1,41 @@
+-- What the rule call's tests come to before the automaton is built.
+-- No promise of a call that 01 names rests on this file.
+-- Assumes nothing.
+use Prim.Native.Nat.{ℕ}
+use mathlib.Core.Path.{_≡_}
+use mathlib.Core.Bool.{Bool, true, false}
+use mathlib.Core.List.{List}
+use Rattle.reader.specs.declared.reading.Reading.{Reading}
+use Rattle.reader.specs.declared.reading.Reading.the-variants.{Good}
+use Rattle.reader.specs.declared.refusal.Refusal.{Refusal}
+use Rattle.reader.specs.declared.refusal.Refusal.the-variants.{Nothing, StateCount}
+use Rattle.reader.specs.Formula.{Formula}
+use Rattle.reader.specs.Marks.{ruleKind, conditionKind}
+use Rattle.reader.specs.Reading.{ReadingOf, IsGood}
+use Rattle.automaton.specs.Alphabet.{badAlphabet, tooLong}
+use Rattle.automaton.specs.Condition.{Judges}
+use Rattle.game.specs.Rule.{Buffers, shortBuffers, ruleRefusal}
+
+-- every test before 9 is passed, and the mask is the condition's
+pub record Passed (i o : ℕ) (rule condition : List ℕ) (old : Buffers) (reading condition-reading : Reading) (mask : ℕ) : Type 0 where
+  pub alphabet : badAlphabet i o ≡ false
+  pub rule-fits : tooLong rule ≡ false
+  pub condition-fits : tooLong condition ≡ false
+  pub buffers-fit : shortBuffers i o old ≡ false
+  pub rule-nodes : ℕ
+  pub rule-good : reading ≡ Good rule-nodes
+  pub condition-nodes : ℕ
+  pub condition-good : condition-reading ≡ Good condition-nodes
+  pub assumption : Formula
+  pub assumed : IsGood i (conditionKind i) condition assumption
+  pub judges : Judges assumption i mask
+
+-- the refusal is the one that comes first, whatever the number of states, or every test is passed
+pub record RuleChecked (i o : ℕ) (rule condition : List ℕ) (old : Buffers) (refusal : Refusal) (mask : ℕ) : Type 0 where
+  pub reading : Reading
+  pub read : ReadingOf i (ruleKind i o) rule reading
+  pub condition-reading : Reading
+  pub condition-read : ReadingOf i (conditionKind i) condition condition-reading
+  pub first : (refusal ≡ Nothing → ⊥) → (n : ℕ) → refusal ≡ ruleRefusal i o rule condition old reading condition-reading n
+  pub not-count : refusal ≡ StateCount → ⊥
+  pub passed : refusal ≡ Nothing → Passed i o rule condition old reading condition-reading mask

@@ -15,7 +15,8 @@ use Rattle.automaton.specs.Alphabet.{Letters}
 use Rattle.automaton.specs.Bits.{bit, one, word}
 use Rattle.automaton.specs.Trace.{Satisfies}
 use Rattle.automaton.specs.Valuation.{vectors, endVector}
-use Rattle.automaton.specs.State.{start, after, accepts, run}
+use Rattle.automaton.specs.State.{start, after, accepts}
+use Rattle.automaton.specs.Fold.{run}
 use Rattle.automaton.specs.Discovery.{position, states, stateCount, target}
 use Rattle.automaton.specs.Automaton.{walk, Automaton, Cleared}
 use Rattle.automaton.specs.Exploration.{Filled, Explored, BuiltAutomaton}

@@ -21,3 +21,4 @@ pub mod OperatorLaws
 pub mod CoordinateLaws
 pub mod LoopLaws
 pub mod AlphabetLaws
+pub mod OneAutomaton

@@ -14,8 +14,8 @@ use Rattle.reader.specs.Formula.{Formula, constant, name, unary, neg, next, wea
 use Rattle.automaton.specs.Bits.{bit}
 use Rattle.automaton.specs.Trace.{Satisfies}
 use Rattle.automaton.specs.Valuation.{value, coords, ends, vectors, present, endVector}
-use Rattle.automaton.specs.State.{start, after, accepts, run}
-use Rattle.automaton.specs.Fold.{valuation}
+use Rattle.automaton.specs.State.{start, after, accepts}
+use Rattle.automaton.specs.Fold.{valuation, run}
 use Rattle.automaton.proofs.BitLaws.{bit-word, bit-gather}
 use Rattle.automaton.proofs.StepLaws.{by-test, by-true}
 use Rattle.automaton.proofs.ValuationLaws.{Right, value-holds, valuation-lt, valuation-right}

@@ -2,7 +2,6 @@
 -- Assumes nothing.
 use Prim.Native.Nat.{ℕ}
 use mathlib.Core.Bool.{Bool}
-use mathlib.Core.List.{List, [], _∷_}
 use Rattle.reader.specs.Formula.{Formula}
 use Rattle.automaton.specs.Bits.{bit, word}
 use Rattle.automaton.specs.Valuation.{present, endVector, vectors}
@@ -21,9 +20,3 @@ after φ s a = word (λ v. bit s (present φ a v)) (vectors φ)
 unfoldable pub accepts : Formula → ℕ → Bool
 unfolding bit endVector
 accepts φ s = bit s (endVector φ)
-
--- the state after a list of letters
-unfoldable pub run : Formula → ℕ → List ℕ → ℕ
-unfolding after
-run φ s [] = s
-run φ s (a ∷ w) = run φ (after φ s a) w

@@ -20,3 +20,4 @@ pub mod RuleLaws
 pub mod RuleCheckLaws
 pub mod RuleCallLaws
 pub mod Determined
+pub mod OneAnswer

@@ -24,6 +24,7 @@ use Rattle.automaton.specs.declared.construct.Construction.{Construction}
 use Rattle.automaton.specs.declared.construct.Construction.the-variants.{Built, Refused as Unbuilt}
 use Rattle.automaton.specs.Limits.{stateLimit}
 use Rattle.automaton.specs.Alphabet.{badAlphabet, tooLong, letterCount}
+use Rattle.automaton.specs.Condition.{maskOf}
 use Rattle.automaton.specs.Construction.{shortAutomaton, constructRefusal, Constructed, Served as AutomatonServed}
 use Rattle.automaton.proofs.ReadLaws.{count-of}
 use Rattle.automaton.proofs.ConstructionLaws.{long-enough}
@@ -165,6 +166,9 @@ module _ (fair : Bool) (i o : ℕ) (rule condition : List ℕ) (old : Buffers) (
         → RuleSolved fair i o rule condition old (buffers t a σ τ) (verdictOf can n)
     answered σ τ can tables verdict =
         let s = automaton-of in
+        let m = pass .mask-is in
+        let won : Tables fair (arena i o n t a (maskOf (pass .assumption) i)) (old .system) (old .environment) σ τ = subst (λ (k : ℕ). Tables fair (arena i o n t a k) (old .system) (old .environment) σ τ) m tables in
+        let said : Verdict fair (arena i o n t a (maskOf (pass .assumption) i)) σ τ 0 can = subst (λ (k : ℕ). Verdict fair (arena i o n t a k) σ τ 0 can) m verdict in
         record {
           reading = check .reading;
           read = check .read;
@@ -184,15 +188,14 @@ module _ (fair : Bool) (i o : ℕ) (rule condition : List ℕ) (old : Buffers) (
               good = s .good;
               assumption = pass .assumption;
               assumed = pass .assumed;
-              mask = mask;
               judges = pass .judges;
               automaton = s .automaton;
               transitions-rest = s .transitions-rest;
               accepting-rest = s .accepting-rest;
-              tables = tables;
-              verdict = verdict;
-              can-promise = λ e. can-keep (s .formula) i o n t a mask (s .automaton) fair σ (verdict .system e .wins);
-              cannot-promise = λ e. cannot-keep (s .formula) i o n t a mask (s .automaton) fair τ (verdict .environment e .wins);
+              tables = won;
+              verdict = said;
+              can-promise = λ e. can-keep (s .formula) i o n t a (maskOf (pass .assumption) i) (s .automaton) fair σ (said .system e .wins);
+              cannot-promise = λ e. cannot-keep (s .formula) i o n t a (maskOf (pass .assumption) i) (s .automaton) fair τ (said .environment e .wins);
             },
           );
           refused = λ z. absurd (z refl);

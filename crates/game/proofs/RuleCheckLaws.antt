@@ -69,7 +69,8 @@ record MaskedBy (i : ℕ) (condition : List ℕ) (mask : ℕ) : Type 0 where
   good : reading ≡ Good nodes
   assumption : Formula
   assumed : IsGood i (conditionKind i) condition assumption
-  judges : Judges assumption i mask
+  mask-is : mask ≡ maskOf assumption i
+  judges : Judges assumption i (maskOf assumption i)
 
 served-good : (κ : Reading) → afterCondition κ Nothing ≡ Nothing → (n : ℕ) × (κ ≡ Good n)
 served-good (Good n) e = (n, refl)
@@ -86,7 +87,7 @@ with-mask i o condition mask a b c =
     let e : Mask mask ≡ Mask (maskOf (s .formula) i) = s .answer in
     let d : mask ≡ maskOf (s .formula) i = cc in
     let g = served-good (c .reading) (sym f ∙ n) in
-    record { reading = c .reading; read = c .read; nodes = g .0; good = g .1; assumption = s .formula; assumed = s .good; judges = subst (λ (m : ℕ). Judges (s .formula) i m) (sym d) (s .judges) })
+    record { reading = c .reading; read = c .read; nodes = g .0; good = g .1; assumption = s .formula; assumed = s .good; mask-is = d; judges = s .judges })
     (λ n. absurd (let e : Mask mask ≡ Refused (c .refusal) = c .refused (something (c .refusal) n) in let z : _≡_ {A = ℕ} 0 1 = cc in omega arith))
     (refused-or-served (c .refusal))
 
@@ -160,6 +161,7 @@ module _ (i o : ℕ) (rule condition : List ℕ) (old : Buffers) (mask : ℕ) wh
                 condition-good = w .good;
                 assumption = w .assumption;
                 assumed = w .assumed;
+                mask-is = w .mask-is;
                 judges = w .judges;
               };
             }

@@ -18,7 +18,7 @@ use Rattle.automaton.specs.Alphabet.{badAlphabet, tooLong, letterCount}
 use Rattle.automaton.specs.Trace.{Satisfies}
 use Rattle.automaton.specs.Automaton.{Automaton, Cleared}
 use Rattle.automaton.specs.Construction.{CountOf, shortAutomaton, Over}
-use Rattle.automaton.specs.Condition.{Judges}
+use Rattle.automaton.specs.Condition.{maskOf, Judges}
 use Rattle.game.specs.declared.answer.Answer.{Answer}
 use Rattle.game.specs.declared.answer.Answer.the-variants.{Refused}
 use Rattle.game.specs.Answer.{answerNumber, answerPlace, verdictOf}
@@ -75,15 +75,14 @@ pub record Served (fair : Bool) (i o : ℕ) (rule condition : List ℕ) (old new
   pub good : IsGood i (ruleKind i o) rule formula
   pub assumption : Formula
   pub assumed : IsGood i (conditionKind i) condition assumption
-  pub mask : ℕ
-  pub judges : Judges assumption i mask
+  pub judges : Judges assumption i (maskOf assumption i)
   pub automaton : Automaton formula (letterCount i o) n (new .transitions) (new .accepting)
   pub transitions-rest : Cleared (n * letterCount i o) (stateLimit * letterCount i o) (old .transitions) (new .transitions)
   pub accepting-rest : Cleared n stateLimit (old .accepting) (new .accepting)
-  pub tables : Tables fair (arena i o n (new .transitions) (new .accepting) mask) (old .system) (old .environment) (new .system) (new .environment)
-  pub verdict : Verdict fair (arena i o n (new .transitions) (new .accepting) mask) (new .system) (new .environment) 0 can
-  pub can-promise : can ≡ true → Can fair formula (arena i o n (new .transitions) (new .accepting) mask) (new .system)
-  pub cannot-promise : can ≡ false → Cannot fair formula (arena i o n (new .transitions) (new .accepting) mask) (new .environment)
+  pub tables : Tables fair (arena i o n (new .transitions) (new .accepting) (maskOf assumption i)) (old .system) (old .environment) (new .system) (new .environment)
+  pub verdict : Verdict fair (arena i o n (new .transitions) (new .accepting) (maskOf assumption i)) (new .system) (new .environment) 0 can
+  pub can-promise : can ≡ true → Can fair formula (arena i o n (new .transitions) (new .accepting) (maskOf assumption i)) (new .system)
+  pub cannot-promise : can ≡ false → Cannot fair formula (arena i o n (new .transitions) (new .accepting) (maskOf assumption i)) (new .environment)
 
 -- the whole promise: 01's number and place, the answer and the four buffers on every input
 pub record RuleSolved (fair : Bool) (i o : ℕ) (rule condition : List ℕ) (old new : Buffers) (r : Answer) : Type 0 where

@@ -13,7 +13,7 @@ use Rattle.reader.specs.Formula.{Formula}
 use Rattle.reader.specs.Marks.{ruleKind, conditionKind}
 use Rattle.reader.specs.Reading.{ReadingOf, IsGood}
 use Rattle.automaton.specs.Alphabet.{badAlphabet, tooLong}
-use Rattle.automaton.specs.Condition.{Judges}
+use Rattle.automaton.specs.Condition.{maskOf, Judges}
 use Rattle.game.specs.Rule.{Buffers, shortBuffers, ruleRefusal}
 
 -- every test before 9 is passed, and the mask is the condition's
@@ -28,7 +28,8 @@ pub record Passed (i o : ℕ) (rule condition : List ℕ) (old : Buffers) (readi
   pub condition-good : condition-reading ≡ Good condition-nodes
   pub assumption : Formula
   pub assumed : IsGood i (conditionKind i) condition assumption
-  pub judges : Judges assumption i mask
+  pub mask-is : mask ≡ maskOf assumption i
+  pub judges : Judges assumption i (maskOf assumption i)
 
 -- the refusal is the one that comes first, whatever the number of states, or every test is passed
 pub record RuleChecked (i o : ℕ) (rule condition : List ℕ) (old : Buffers) (refusal : Refusal) (mask : ℕ) : Type 0 where

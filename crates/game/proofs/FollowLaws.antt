@@ -1,13 +1,16 @@
 -- The follower's answer, by the test that decides.
 -- Assumes nothing.
 use Prim.Native.Nat.{ℕ, _<_, _≤_}
-use mathlib.Core.Path.{_≡_}
+use mathlib.Core.Path.{_≡_, refl, ap, _∙_}
 use mathlib.Core.Bool.{true, false, not, _||_}
 use mathlib.Core.List.{List}
-use lib.Dec.{eqb}
+use lib.Dec.{eqb, leb}
 use lib.ListN.{getD}
 use borrow.Author.Tests.{le-leb, lt-leb}
-use Rattle.reader.specs.declared.refusal.Refusal.the-variants.{Alphabet, Buffer, GivenCount, Move, State, Value}
+use Rattle.reader.specs.declared.refusal.Refusal.{Refusal}
+use Rattle.reader.specs.declared.refusal.Refusal.the-variants.{Nothing, Alphabet, Buffer, GivenCount, Move, State, Value}
+use Rattle.reader.specs.Refusal.{numberOf, placeOf}
+use Rattle.reader.proofs.BoolLaws.{on}
 use Rattle.automaton.specs.Alphabet.{badAlphabet}
 use Rattle.game.specs.declared.follow.Position.{Position}
 use Rattle.game.specs.declared.follow.Followed.{Followed}
@@ -15,7 +18,7 @@ use Rattle.game.specs.declared.follow.Followed.the-variants.{Moved, NoRo
 use Rattle.game.specs.Arena.{Arena, moveIndex, next, goal}
 use Rattle.game.specs.Strategy.{systemByte}
 use Rattle.game.specs.Given.{badCount, shortRead}
-use Rattle.game.specs.Follower.{shortStrategy, movedBy, laterFollowed, followed}
+use Rattle.game.specs.Follower.{shortStrategy, movedBy, laterFollowed, followed, followRefusal, followedNumber, followedPlace, FollowedBy}
 
 -- the move by output y, as the code has it: where it leads to no state, and where it leads to t
 module _ (G : Arena) (p : Position) (x y z t : ℕ) (same : z ≡ y) (is : t ≡ next G (p .state) x z) where
@@ -70,3 +73,39 @@ module _ (i o : ℕ) (G : Arena) (σ : List ℕ) (p : Position) (x : ℕ) where
     pub followed-later : badCount (G .states) ≡ false → (r : Followed) → r ≡ laterFollowed G σ p x → r ≡ followed i o G σ p x
     unfolding followed
     followed-later b r h = rw (a, b) h
+
+-- the refusal that an answer carries
+refusal-in : Followed → Refusal
+refusal-in (Moved y p) = Nothing
+refusal-in NoRow = Nothing
+refusal-in (Refused x) = x
+
+number-in : (r : Followed) → followedNumber r ≡ numberOf (refusal-in r)
+unfolding refusal-in
+number-in (Moved y p) = refl
+number-in NoRow = refl
+number-in (Refused x) = refl
+
+place-in : (r : Followed) → followedPlace r ≡ placeOf (refusal-in r)
+unfolding refusal-in
+place-in (Moved y p) = refl
+place-in NoRow = refl
+place-in (Refused x) = refl
+
+-- is the one that comes first
+first-refusal : (i o : ℕ) (G : Arena) (σ : List ℕ) (p : Position) (x : ℕ) → refusal-in (followed i o G σ p x) ≡ followRefusal i o G σ p x
+unfolding followed laterFollowed followRefusal refusal-in
+first-refusal i o G σ p x =
+    let y : ℕ = systemByte G σ (p .state) x in
+    on (badAlphabet i o) (λ a. rw a)
+    (λ a. on (badCount (G .states)) (λ b. rw (a, b))
+    (λ b. on (shortRead G || shortStrategy G σ) (λ c. rw (a, b, c))
+    (λ c. on (leb (G .states) (p .state)) (λ d. rw (a, b, c, d))
+    (λ d. on (leb (G .inputs) x) (λ e. rw (a, b, c, d, e))
+    (λ e. on (leb (G .outputs) y) (λ f. rw (a, b, c, d, e, f))
+    (λ f. on (leb (G .states) (next G (p .state) x y)) (λ g. rw (a, b, c, d, e, f, g)) (λ g. rw (a, b, c, d, e, f, g))))))))
+
+pub followed-by : (i o : ℕ) (G : Arena) (σ : List ℕ) (p : Position) (x : ℕ) (r : Followed) → r ≡ followed i o G σ p x → FollowedBy i o G σ p x r
+followed-by i o G σ p x r e =
+    let f : refusal-in r ≡ followRefusal i o G σ p x = ap refusal-in e ∙ first-refusal i o G σ p x in
+    record { answer = e; number = number-in r ∙ ap numberOf f; place = place-in r ∙ ap placeOf f }

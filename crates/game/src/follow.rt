@@ -8,7 +8,7 @@ ghost use Rattle.game.specs.Arena.{arena};
 ghost use Rattle.game.specs.Rank.{arenaOf};
 ghost use Rattle.game.specs.Checks.{InRange};
 ghost use Rattle.game.specs.Given.{shortRead};
-ghost use Rattle.game.specs.Follower.{shortStrategy, movedBy, laterFollowed, followed};
+ghost use Rattle.game.specs.Follower.{shortStrategy, movedBy, laterFollowed, FollowedBy};
 use crate::answer::Mode;
 use crate::arena::Game;
 use crate::arena::wide;
@@ -124,7 +124,7 @@ impl Position {
         system: &[u8],
         x: usize,
     ) -> Followed
-        ensures { λ r. ⌜ r ≡ followed i o (arena i o n (now (transitions .entry)) (now (accepting .entry)) 0) (now (system .entry)) self x ⌝ }
+        ensures { λ r. ⌜ FollowedBy i o (arena i o n (now (transitions .entry)) (now (accepting .entry)) 0) (now (system .entry)) self x r ⌝ }
     {
         if bad_alphabet(i, o) {
             return Followed::Refused(Refusal::Alphabet);

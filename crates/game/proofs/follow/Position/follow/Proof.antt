@@ -5,14 +5,17 @@ use mathlib.Core.Path.{_≡_, sym, _∙_, subst}
 use mathlib.Core.Bool.{true, false}
 use denote.Ref.{now}
 use Rattle.automaton.specs.Alphabet.{badAlphabet}
+use Rattle.reader.specs.declared.refusal.Refusal.the-variants.{Alphabet, GivenCount}
 use Rattle.game.specs.declared.arena.Game.{Game}
+use Rattle.game.specs.declared.follow.Followed.{Followed}
+use Rattle.game.specs.declared.follow.Followed.the-variants.{Refused}
 use Rattle.game.specs.Arena.{Arena, arena}
 use Rattle.game.specs.Rank.{arenaOf}
 use Rattle.game.specs.Checks.{InRange}
 use Rattle.game.specs.Given.{badCount}
-use Rattle.game.specs.Follower.{laterFollowed}
+use Rattle.game.specs.Follower.{laterFollowed, followed, FollowedBy}
 use Rattle.game.proofs.CheckLaws.{in-range}
-use Rattle.game.proofs.FollowLaws.{alphabet-refused, count-refused, followed-later}
+use Rattle.game.proofs.FollowLaws.{alphabet-refused, count-refused, followed-later, followed-by}
 use Rattle.game.proofs.follow.Position.follow.Statement.{statement}
 use Rattle.game.proofs.follow.Position.follow.Tie as tie
 
@@ -29,6 +32,10 @@ alphabet-good c = sym (c .before .before .before .bad-alphabet .ensures) ∙ c .
 count-good : (c : tie.Else2) → badCount (start-of c .args .n) ≡ false
 count-good c = sym (c .before .bad-count .ensures) ∙ c .if2 .left
 
+-- an answer that is the right one is promised with its number and place
+answers : (z : tie.Start) (r : Followed) → r ≡ followed (z .args .i) (z .args .o) (G z) (now (z .args .system)) (z .args .self) (z .args .x) → FollowedBy (z .args .i) (z .args .o) (G z) (now (z .args .system)) (z .args .self) (z .args .x) r
+answers z r e = followed-by (z .args .i) (z .args .o) (G z) (now (z .args .system)) (z .args .self) (z .args .x) r e
+
 pub follow-spec : {M : Type 1} → statement M
 follow-spec =
     tie.close
@@ -36,12 +43,13 @@ follow-spec =
     (λ c κs. search needs)
     (λ c.
     let z = c .before .before .before .before .before in
-    alphabet-refused (z .args .i) (z .args .o) (G z) (now (z .args .system)) (z .args .self) (z .args .x) (sym (c .before .bad-alphabet .ensures) ∙ c .if1 .taken))
+    answers z (Refused Alphabet) (alphabet-refused (z .args .i) (z .args .o) (G z) (now (z .args .system)) (z .args .self) (z .args .x) (sym (c .before .bad-alphabet .ensures) ∙ c .if1 .taken)))
     (λ c κs. search needs)
     (λ c.
     let z = c .before .before .before .before .before .before .before in
-    count-refused (z .args .i) (z .args .o) (G z) (now (z .args .system)) (z .args .self) (z .args .x)
-    (sym (c .before .before .before .bad-alphabet .ensures) ∙ c .before .before .if1 .left) (sym (c .before .bad-count .ensures) ∙ c .if2 .taken))
+    answers z (Refused GivenCount)
+    (count-refused (z .args .i) (z .args .o) (G z) (now (z .args .system)) (z .args .self) (z .args .x)
+    (sym (c .before .before .before .bad-alphabet .ensures) ∙ c .before .before .if1 .left) (sym (c .before .bad-count .ensures) ∙ c .if2 .taken)))
     (λ c κs. alphabet-good c)
     (λ c κs.
     let a = start-of (c .before) .args in
@@ -50,5 +58,6 @@ follow-spec =
     let k = c .before .before in
     let z = start-of k in
     let a = z .args in
-    followed-later (a .i) (a .o) (G z) (now (a .system)) (a .self) (a .x) (alphabet-good k) (count-good k) (c .step .result)
-    (subst (λ (g : Game). c .step .result ≡ laterFollowed (arenaOf g (now (a .transitions)) (now (a .accepting))) (now (a .system)) (a .self) (a .x)) (c .before .game-of .ensures) (c .step .ensures))))
+    answers z (c .step .result)
+    (followed-later (a .i) (a .o) (G z) (now (a .system)) (a .self) (a .x) (alphabet-good k) (count-good k) (c .step .result)
+    (subst (λ (g : Game). c .step .result ≡ laterFollowed (arenaOf g (now (a .transitions)) (now (a .accepting))) (now (a .system)) (a .self) (a .x)) (c .before .game-of .ensures) (c .step .ensures)))))

@@ -1,6 +1,20 @@
-#!/bin/sh
-# The test run: proves every crate from nothing, tries the must-fail edits and runs the programs.
-# Its last line is 'N passed, 0 failed', and its exit status is 0 only then.
-set -eu
+#!/usr/bin/env bash
+# The test run: proves every crate from nothing, tries the must-fail edits and runs the programs; then the independent
+# solver's own tests, the comparison of the C interface with it, and the example in C.
+# Its last line is rt ci's 'N passed, 0 failed', printed only when everything else passed too.
+set -euo pipefail
 cd "$(dirname "$0")"
-exec rt ci
+log=$(mktemp)
+trap 'rm -f "$log"' EXIT
+rt ci | tee "$log" | { grep -v ' passed, ' || true; }
+
+rt staticlib capi
+export CARGO_TARGET_DIR="$PWD/target/cargo" CAPI_LIB_DIR="$PWD/target/staticlib"
+(cd tests && cargo test --offline --quiet)
+(cd tests && cargo run --release --offline --quiet --features capi --bin compare)
+
+cc -std=c99 -pedantic -Wall -Wextra -Werror -Iinclude examples/follow.c target/staticlib/libcapi.a -o target/follow
+target/follow < examples/follow.input | diff examples/follow.expected -
+echo "examples/follow.c: as expected"
+
+tail -n 1 "$log"

@@ -27,7 +27,7 @@ use Rattle.automaton.proofs.PositionLaws.{getD-position}
 use Rattle.automaton.proofs.Reachable.{first-state, some-states, stays-in, numbered, too-many}
 
 -- a transition by its state and letter
-moved-at : (φ : Formula) (L n : ℕ) (transitions : List ℕ) → 0 < L → n ≤ stateLimit → n ≡ length (states φ L) → Filled φ L (states φ L) transitions (n * L) → (s a : ℕ) → s < n → a < L
+pub moved-at : (φ : Formula) (L n : ℕ) (transitions : List ℕ) → 0 < L → n ≤ stateLimit → n ≡ length (states φ L) → Filled φ L (states φ L) transitions (n * L) → (s a : ℕ) → s < n → a < L
     → (getD transitions (s * L + a) 0 < n) × (getD (states φ L) (getD transitions (s * L + a) 0) 0 ≡ after φ (getD (states φ L) s 0) a)
 unfolding Filled target
 moved-at φ L n transitions pos few count filled s a hs ha =
@@ -56,7 +56,7 @@ module _ (φ : Formula) (L n : ℕ) (transitions accepting : List ℕ) (pos : 0 
       let g = by-one (accepts φ (run φ (start φ) (a ∷ w))) (run-accepts φ a w) in
       (λ q. g .0 (sym e ∙ q), λ x. e ∙ g .1 x)
 
-  automaton-holds : n ≤ stateLimit → Automaton φ L n transitions accepting
+  pub automaton-holds : n ≤ stateLimit → Automaton φ L n transitions accepting
   unfolding stateCount
   automaton-holds few = record { count = count; numbering = numbered φ L pos (omega arith); moved = moved; marked = marked; meaning = walk-accepts }
 

@@ -1,7 +1,7 @@
 // The refusals of all calls.
 ghost use mathlib.Core.Path.{_≡_};
 ghost use Rattle.reader.specs.declared.refusal.Refusal.the-variants.{Nothing};
-ghost use Rattle.reader.specs.Refusal.{afterRule, afterCondition};
+ghost use Rattle.reader.specs.Refusal.{numberOf, placeOf, afterRule, afterCondition};
 use crate::reading::Reading;
 
 // Why a call is refused. Nothing stands for no refusal.
@@ -43,5 +43,49 @@ pub fn condition_refusal(reading: Reading) -> Refusal
         Reading::Bad(place) => Refusal::ConditionText(place),
         Reading::TooManyNodes => Refusal::ConditionNodes,
         Reading::TooManyOperators => Refusal::ConditionNodes,
+    }
+}
+
+// 01's number of a refusal, or 0 for none.
+pub fn number_of(x: Refusal) -> u8
+    ensures { λ r. ⌜ r ≡ numberOf x ⌝ }
+{
+    match x {
+        Refusal::Nothing => 0,
+        Refusal::Alphabet => 1,
+        Refusal::TextLength => 2,
+        Refusal::Buffer => 3,
+        Refusal::RuleText(_) => 4,
+        Refusal::RuleNodes => 5,
+        Refusal::RuleOperators => 6,
+        Refusal::ConditionText(_) => 7,
+        Refusal::ConditionNodes => 8,
+        Refusal::StateCount => 9,
+        Refusal::GivenCount => 10,
+        Refusal::Move(_) => 11,
+        Refusal::State => 12,
+        Refusal::Value(_) => 13,
+    }
+}
+
+// The place or index that goes with a refusal, or 0 where there is none.
+pub fn place_of(x: Refusal) -> usize
+    ensures { λ r. ⌜ r ≡ placeOf x ⌝ }
+{
+    match x {
+        Refusal::Nothing => 0,
+        Refusal::Alphabet => 0,
+        Refusal::TextLength => 0,
+        Refusal::Buffer => 0,
+        Refusal::RuleText(k) => k,
+        Refusal::RuleNodes => 0,
+        Refusal::RuleOperators => 0,
+        Refusal::ConditionText(k) => k,
+        Refusal::ConditionNodes => 0,
+        Refusal::StateCount => 0,
+        Refusal::GivenCount => 0,
+        Refusal::Move(k) => k,
+        Refusal::State => 0,
+        Refusal::Value(k) => k,
     }
 }

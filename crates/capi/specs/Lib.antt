@@ -1,0 +1,4 @@
+pub mod Mode
+pub mod Verdict
+pub mod Step
+pub mod Trial

@@ -1,0 +1,29 @@
+// Modes and truth values as C writes them.
+ghost use mathlib.Core.Path.{_≡_};
+ghost use Rattle.game.specs.Arena.{isFair};
+ghost use Rattle.capi.specs.Mode.{fairAt, truthOf, flagOf};
+use game::answer::Mode;
+
+// The mode at a number: fair at 0, and stable at any other.
+pub(crate) fn mode_at(mode: u8) -> Mode
+    ensures { λ r. ⌜ isFair r ≡ fairAt mode ⌝ }
+{
+    if mode == 0 {
+        return Mode::Fair;
+    }
+    Mode::Stable
+}
+
+// Whether a number is not 0.
+pub(crate) fn truth(b: u8) -> bool
+    ensures { λ r. ⌜ r ≡ truthOf b ⌝ }
+{
+    b != 0
+}
+
+// A truth value as 1 or 0.
+pub(crate) fn flag(b: bool) -> u8
+    ensures { λ r. ⌜ r ≡ flagOf b ⌝ }
+{
+    if b { 1 } else { 0 }
+}

@@ -1,0 +1,51 @@
+// The numbers of an answer of the two calls that solve a game.
+ghost use mathlib.Core.Path.{_≡_};
+ghost use Rattle.game.specs.Answer.{answerNumber, answerPlace};
+ghost use Rattle.capi.specs.Verdict.{canFlag, stateCount};
+use game::answer::Answer;
+use reader::refusal::number_of;
+use reader::refusal::place_of;
+
+// 01's number, 0 for a verdict.
+pub(crate) fn answer_number(answer: Answer) -> u8
+    ensures { λ r. ⌜ r ≡ answerNumber answer ⌝ }
+{
+    match answer {
+        Answer::Can(_) => 0,
+        Answer::Cannot(_) => 0,
+        Answer::Refused(x) => number_of(x),
+    }
+}
+
+// The place of a refusal, 0 where there is none.
+pub(crate) fn answer_place(answer: Answer) -> usize
+    ensures { λ r. ⌜ r ≡ answerPlace answer ⌝ }
+{
+    match answer {
+        Answer::Can(_) => 0,
+        Answer::Cannot(_) => 0,
+        Answer::Refused(x) => place_of(x),
+    }
+}
+
+// 1 for "can", else 0.
+pub(crate) fn can_flag(answer: Answer) -> u8
+    ensures { λ r. ⌜ r ≡ canFlag answer ⌝ }
+{
+    match answer {
+        Answer::Can(_) => 1,
+        Answer::Cannot(_) => 0,
+        Answer::Refused(_) => 0,
+    }
+}
+
+// The number of states, 0 for a refusal.
+pub(crate) fn state_count(answer: Answer) -> usize
+    ensures { λ r. ⌜ r ≡ stateCount answer ⌝ }
+{
+    match answer {
+        Answer::Can(n) => n,
+        Answer::Cannot(n) => n,
+        Answer::Refused(_) => 0,
+    }
+}

@@ -1,0 +1,64 @@
+-- The certificate of a row and the test that antt computes on it: numbers and trees only, no proof.
+-- Assumes nothing.
+use Prim.Native.Nat.{ℕ}
+use mathlib.Core.Bool.{Bool, true, false, not, _&&_, _||_}
+use mathlib.Core.List.{List, [], _∷_}
+use lib.Dec.{eqb, leb}
+use Rattle.reader.specs.Limits.{nodeLimit, operatorLimit}
+use Rattle.reader.specs.Formula.{Formula, size, operators}
+use Rattle.reader.specs.Marks.{ruleKind, conditionKind, kindIn}
+use Rattle.automaton.specs.Limits.{stateLimit}
+use Rattle.automaton.specs.Alphabet.{tooLong}
+use Rattle.automaton.specs.Condition.{maskOf}
+use Rattle.automaton.specs.Discovery.{stateCount}
+use Rattle.game.specs.Arena.{Arena, arena, isFair}
+use Rattle.readings.specs.Lists.{transitionsOf, flagsOf}
+use Rattle.readings.specs.Reading.{Row, L}
+use Rattle.readings.proofs.Tree.{Tree, formulaOf, readsBy}
+use Rattle.readings.proofs.Test.{winsOf}
+
+-- how the rule and the condition are read, and the winner's table and ranks
+pub record Certificate : Type 0 where
+  pub rule : Tree
+  pub condition : Tree
+  pub table : List ℕ
+  pub ranks : List ℕ
+
+abbrev pub certificate : Tree → Tree → List ℕ → List ℕ → Certificate
+certificate rule condition table ranks = record { rule = rule; condition = condition; table = table; ranks = ranks }
+
+-- the texts are not too long, and the trees read them
+unfoldable pub textsPass : Row → Certificate → Bool
+unfolding kindIn readsBy
+textsPass r c = not (tooLong (r .rule) || tooLong (r .condition)) && (readsBy (ruleKind 1 1) (r .rule) (c .rule) && readsBy (conditionKind 1) (r .condition) (c .condition))
+
+-- the two formulas are within the limits
+unfoldable pub sizesPass : Formula → Formula → Bool
+unfolding size operators
+sizesPass φ κ = leb (size φ) nodeLimit && (leb (operators φ) operatorLimit && leb (size κ) nodeLimit)
+
+-- the rule has n states, and n is within the limit
+unfoldable pub countPasses : Formula → ℕ → Bool
+unfolding stateCount
+countPasses φ n = eqb n (stateCount φ L) && leb n stateLimit
+
+-- the arena whose lists and mask are computed from the definitions
+abbrev pub arenaOf : Formula → Formula → ℕ → Arena
+arenaOf φ κ n = arena 1 1 n (transitionsOf φ L) (flagsOf φ L) (maskOf κ 1)
+
+-- the test, over the two formulas
+unfoldable pub passesWith : Row → Certificate → Formula → Formula → Bool
+unfolding textsPass sizesPass countPasses winsOf transitionsOf flagsOf maskOf
+passesWith r c φ κ =
+    textsPass r c && (sizesPass φ κ && (countPasses φ (r .count) && winsOf (r .can) (isFair (r .mode)) (arenaOf φ κ (r .count)) (c .table) (c .ranks)))
+
+unfoldable pub passes : Row → Certificate → Bool
+unfolding passesWith formulaOf
+passes r c = passesWith r c (formulaOf 1 (c .rule)) (formulaOf 1 (c .condition))
+
+-- each row of a list has a certificate that passes
+unfoldable pub allPass : List Row → List Certificate → Bool
+unfolding passes
+allPass [] cs = true
+allPass (r ∷ rs) [] = false
+allPass (r ∷ rs) (c ∷ cs) = passes r c && allPass rs cs

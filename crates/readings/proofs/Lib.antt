@@ -1,0 +1,9 @@
+pub mod Tree
+pub mod TreeLaws
+pub mod ListLaws
+pub mod Test
+pub mod TestLaws
+pub mod Certificate
+pub mod CertificateLaws
+pub mod Readings
+pub mod Answers

@@ -1,0 +1,70 @@
+-- The theorem: every row that 01 marks as proved is a reading. Each has a certificate, and one computation tests them all.
+-- Assumes nothing.
+use mathlib.Core.Path.{refl}
+use mathlib.Core.List.{List, [], _∷_}
+use Rattle.reader.specs.Formula.{size, operators}
+use Rattle.reader.specs.Marks.{kindIn, allowedBy, isTemporal, amongOf, kindOf, operandOf, unaryOf, binaryOf}
+use Rattle.reader.specs.Grammar.{marks}
+use Rattle.automaton.specs.Bits.{bit, word, gather}
+use Rattle.automaton.specs.Condition.{maskOf}
+use Rattle.automaton.specs.Valuation.{value, coords, ends, present, endVector, vectors}
+use Rattle.automaton.specs.State.{start, after, accepts}
+use Rattle.automaton.specs.Discovery.{position, extend, target, look, discovered, states, stateCount}
+use Rattle.game.specs.Arena.{next, goal, holds}
+use Rattle.readings.specs.Lists.{listOf, transitionsOf, flagsOf}
+use Rattle.readings.specs.Reading.{Reading, All}
+use Rattle.readings.specs.Rows.{rows}
+use Rattle.readings.proofs.Tree.{Tree, single, prefixed, grouped, joined, flat, formulaOf, fits, sameBytes, readsBy}
+use Rattle.readings.proofs.Test.{below, stepOf, outputOf, inputOf, bytesOf, stateOf, winsOf}
+use Rattle.readings.proofs.Certificate.{Certificate, certificate, textsPass, sizesPass, countPasses, passesWith, passes, allPass}
+use Rattle.readings.proofs.CertificateLaws.{all-readings}
+
+-- 0 and 1, and the names a and p
+abbrev never : Tree
+never = single 48
+
+abbrev ever : Tree
+ever = single 49
+
+abbrev a : Tree
+a = single 97
+
+abbrev p : Tree
+p = single 112
+
+-- F(a&Xa)
+abbrev twice : Tree
+twice = prefixed 70 (grouped (joined 1 a 38 (prefixed 88 a)))
+
+-- for each row how its texts are read, and the winner's table and ranks up to the last state that has a rank
+certificates : List Certificate
+certificates =
+    -- Fp: p at once
+    certificate (prefixed 70 p) ever (1 ∷ 1 ∷ []) (1 ∷ [])
+    -- Fa: the environment never gives a
+    ∷ certificate (prefixed 70 a) ever (0 ∷ 0 ∷ []) (1 ∷ 1 ∷ [])
+    -- fair a: it has to
+    ∷ certificate (prefixed 70 a) a (0 ∷ 0 ∷ 0 ∷ 0 ∷ []) (1 ∷ 1 ∷ [])
+    -- fair 0: the condition never holds
+    ∷ certificate (prefixed 70 a) never (0 ∷ 0 ∷ 0 ∷ 0 ∷ []) (1 ∷ 1 ∷ [])
+    -- Ga: the environment leaves a out once, and gives it from then on
+    ∷ certificate (prefixed 71 a) a (0 ∷ 1 ∷ []) (2 ∷ 1 ∷ [])
+    -- F(a&Xa), fair: the environment gives a at every other step
+    ∷ certificate twice a (1 ∷ 1 ∷ 0 ∷ []) (1 ∷ 1 ∷ 2 ∷ [])
+    -- stable: two in a row have to come
+    ∷ certificate twice a (0 ∷ 0 ∷ 0 ∷ 0 ∷ 0 ∷ 0 ∷ []) (2 ∷ 2 ∷ 1 ∷ [])
+    -- Xa: the environment never gives a
+    ∷ certificate (prefixed 88 a) ever (0 ∷ 0 ∷ 0 ∷ []) (1 ∷ 1 ∷ 1 ∷ [])
+    -- Na: any first step will do
+    ∷ certificate (prefixed 78 a) ever (0 ∷ 0 ∷ []) (1 ∷ [])
+    -- a&p|!a&!p: the output repeats the input, which was seen
+    ∷ certificate (joined 2 (joined 1 a 38 p) 124 (joined 1 (prefixed 33 a) 38 (prefixed 33 p))) ever (0 ∷ 1 ∷ []) (1 ∷ [])
+    -- pUa: p until a comes
+    ∷ certificate (joined 0 p 85 a) a (1 ∷ 0 ∷ 255 ∷ 255 ∷ 255 ∷ 255 ∷ 1 ∷ 0 ∷ []) (1 ∷ 0 ∷ 0 ∷ 1 ∷ [])
+    ∷ []
+
+pub readings : All Reading rows
+unfolding rows certificates allPass passes passesWith textsPass sizesPass countPasses readsBy sameBytes fits formulaOf flat winsOf stateOf bytesOf inputOf outputOf stepOf below next goal holds
+    maskOf flagsOf transitionsOf listOf stateCount states discovered look target extend position accepts after start vectors endVector present ends coords value gather word bit
+    marks binaryOf unaryOf operandOf kindOf amongOf isTemporal allowedBy kindIn operators size
+readings = all-readings rows certificates refl

@@ -1,0 +1,133 @@
+/*
+ * airtable.h: the rule engine for C. Build the library with `rt staticlib capi` and link target/staticlib/libcapi.a.
+ *
+ * The station has i inputs, named a, b, c, d, and o outputs, named p, q, r, s; i and o are 0 to 4. In each step the
+ * outside sets the inputs and the station then sets the outputs. An input number has bit 0 for a, bit 1 for b and so
+ * on; an output number has bit 0 for p. The letter of a step is one byte: input + 2^i * output.
+ *
+ * First use: can the station bring about a rule, and what does it do on input 1?
+ *
+ *     uint8_t moves[AIRTABLE_STATES << 2], marks[AIRTABLE_STATES];      // i = 1, o = 1: 128 * 2^(i+o)
+ *     uint8_t station[AIRTABLE_STATES << 1], outside[AIRTABLE_STATES];  // 128 * 2^i
+ *     uint8_t can, reached = 0, row, output;
+ *     size_t n, place, state = 0;
+ *     if (airtable_solve_rule(1, 1, AIRTABLE_FAIR, (const uint8_t *)"pUa", 3, (const uint8_t *)"a", 1,
+ *             moves, sizeof moves, marks, sizeof marks, station, sizeof station, outside, sizeof outside,
+ *             &can, &n, &place) == 0 && can
+ *         && airtable_follow(1, 1, n, moves, sizeof moves, marks, sizeof marks, station, sizeof station,
+ *             1, &state, &reached, &row, &output, &place) == 0 && row)
+ *         printf("output %u, goal %s\n", output, reached ? "entered" : "still ahead");
+ *
+ * It prints "output 0, goal entered". examples/follow.c is a whole program.
+ *
+ * What a call returns. 0: it was served. Any other number: it was refused, for the first of these reasons that holds
+ * in the order that stands at the call. `place` is the place or index where one is named here, and 0 in all other
+ * cases, also when the call was served.
+ *
+ *      1  i or o is above 4
+ *      2  the rule or the condition has more than 255 bytes
+ *      3  a buffer is too short
+ *      4  the rule's text is bad; place: the number of bytes that are still a good beginning
+ *      5  the rule has more than 64 names, constants and operators together
+ *      6  the rule has more than 5 temporal operators (X N F G U R)
+ *      7  the condition's text is bad; place: as for 4
+ *      8  the condition has more than 64 names, constants and operators together
+ *      9  the rule's automaton has more than 128 states
+ *     10  n is 0 or above 128
+ *     11  a move leads to no state; place: its index in `moves`
+ *     12  the start or the state is n or more
+ *     13  the mask has a bit that stands for no input, or the input or a letter is too large; place: for a letter its
+ *         index in `letters`
+ *
+ * What a call writes. Every single value (can, n, place, satisfied, row, output) is written by every call: on a
+ * refusal it is 0, `place` apart. `state` and `reached` change only when a step is taken. A refused call leaves the
+ * buffers as they were, with one exception: refusal 9 sets the first 128 * 2^(i+o) bytes of `moves` to 0. Bytes beyond
+ * the sizes below are never touched.
+ *
+ * What a caller owes. A buffer is a pointer and its length in bytes, and all those bytes must be there, readable and,
+ * unless the pointer is const, writable. A length of 0 may come with any pointer, also null, since nothing is then
+ * read or written through it. A pointer to a single value must not be null. What a call may write must not overlap
+ * anything else that the same call gets; what it only reads may overlap. Texts need no 0 byte at their end. Nobody
+ * else may change these bytes during the call. Given that, every value of every argument is served or refused.
+ *
+ * A call keeps nothing and allocates nothing, so several threads may call at once, each with its own memory. The
+ * deepest texts, with 127 parentheses inside one another, take just under 200 KB of stack, and ordinary ones less
+ * than 40 KB. The library is for x86-64 Linux.
+ */
+#ifndef AIRTABLE_H
+#define AIRTABLE_H
+
+#include <stddef.h>
+#include <stdint.h>
+
+#ifdef __cplusplus
+extern "C" {
+#endif
+
+/* The modes: what the outside promises of the condition. */
+#define AIRTABLE_FAIR 0   /* it holds again and again */
+#define AIRTABLE_STABLE 1 /* from some step on it holds always; every number but 0 means this */
+
+/* The number of states for which there must be room in the buffers that a solving call writes. */
+#define AIRTABLE_STATES 128
+
+/*
+ * Solves the game of a rule. Refusals in this order: 1, 2, 3, 4, 5, 6, 7, 8, 9.
+ *
+ * Lend at least 128 * 2^(i+o) bytes for moves, 128 for marks, 128 * 2^i for station and 128 for outside. When served:
+ *   can      1 if the station wins from state 0, else 0
+ *   n        the number of states; they are 0 to n - 1, and state 0 is the start
+ *   moves    byte s * 2^(i+o) + letter: the state after that letter in state s
+ *   marks    byte s: 1 if state s is a goal, else 0
+ *   station  byte s * 2^i + input: the output to set; 255 all over the rows of states that the outside wins
+ *   outside  byte s: the input that keeps the station from its goal; 255 for states that the station wins
+ * The rest of the 128 states' share is 0 in moves and marks, and 255 in the two tables.
+ */
+uint8_t airtable_solve_rule(size_t i, size_t o, uint8_t mode,
+    const uint8_t *rule, size_t rule_length, const uint8_t *condition, size_t condition_length,
+    uint8_t *moves, size_t moves_length, uint8_t *marks, size_t marks_length,
+    uint8_t *station, size_t station_length, uint8_t *outside, size_t outside_length,
+    uint8_t *can, size_t *n, size_t *place);
+
+/*
+ * Solves the game on an automaton of your own, with n states from 1 to 128. Refusals in this order: 1, 10, 3, 12, 11, 13.
+ *
+ * Give at least n * 2^(i+o) bytes of moves and n of marks (any mark but 0 is a goal), laid out as above; they are only
+ * read. Lend at least 128 * 2^i bytes for station and 128 for outside; can and the two tables are written as above,
+ * with `start` for state 0. Bit x of mask says whether input number x has the condition. The start's own mark counts
+ * for nothing until a step enters it.
+ */
+uint8_t airtable_solve_given(size_t i, size_t o, uint8_t mode, size_t n,
+    const uint8_t *moves, size_t moves_length, const uint8_t *marks, size_t marks_length,
+    size_t start, uint16_t mask,
+    uint8_t *station, size_t station_length, uint8_t *outside, size_t outside_length,
+    uint8_t *can, size_t *place);
+
+/*
+ * Takes one step by the station's table: the outside has chosen `input`. Refusals in this order: 1, 10, 3, 12, 13, then
+ * "no row", 11.
+ *
+ * Give at least n * 2^(i+o) bytes of moves, n of marks and n * 2^i of station. `state` and `reached` hold the position:
+ * at the beginning the start and 0. When the call returns 0:
+ *   row 1    a step was taken: output is what to set; state is the next state; reached is 1 if it was not 0 before or
+ *            the new state is a goal, else 0
+ *   row 0    the table has no output for this state and input: output is 0, and state and reached are as before
+ */
+uint8_t airtable_follow(size_t i, size_t o, size_t n,
+    const uint8_t *moves, size_t moves_length, const uint8_t *marks, size_t marks_length,
+    const uint8_t *station, size_t station_length,
+    size_t input, size_t *state, uint8_t *reached, uint8_t *row, uint8_t *output, size_t *place);
+
+/*
+ * Tries a rule on a list of letters, one a byte, of any length. Refusals in this order: 1, 2, 4, 5, 6, 13.
+ *
+ * When served, satisfied is 1 if the list satisfies the rule, else 0. The empty list satisfies no rule.
+ */
+uint8_t airtable_try_rule(size_t i, size_t o, const uint8_t *rule, size_t rule_length,
+    const uint8_t *letters, size_t letters_length, uint8_t *satisfied, size_t *place);
+
+#ifdef __cplusplus
+}
+#endif
+
+#endif

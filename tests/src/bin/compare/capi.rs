@@ -1,0 +1,195 @@
+//! README: the C declarations of include/airtable.h, word for word, and one plain function for
+//! each that hands back every value the call may have written.
+
+use crate::common::{Lent, SENTINEL};
+use solver::Mode;
+
+#[rustfmt::skip]
+extern "C" {
+    fn airtable_solve_rule(
+        i: usize, o: usize, mode: u8,
+        rule: *const u8, rule_length: usize, condition: *const u8, condition_length: usize,
+        moves: *mut u8, moves_length: usize, marks: *mut u8, marks_length: usize,
+        station: *mut u8, station_length: usize, outside: *mut u8, outside_length: usize,
+        can: *mut u8, n: *mut usize, place: *mut usize,
+    ) -> u8;
+    fn airtable_solve_given(
+        i: usize, o: usize, mode: u8, n: usize,
+        moves: *const u8, moves_length: usize, marks: *const u8, marks_length: usize,
+        start: usize, mask: u16,
+        station: *mut u8, station_length: usize, outside: *mut u8, outside_length: usize,
+        can: *mut u8, place: *mut usize,
+    ) -> u8;
+    fn airtable_follow(
+        i: usize, o: usize, n: usize,
+        moves: *const u8, moves_length: usize, marks: *const u8, marks_length: usize,
+        station: *const u8, station_length: usize,
+        input: usize, state: *mut usize, reached: *mut u8, row: *mut u8, output: *mut u8, place: *mut usize,
+    ) -> u8;
+    fn airtable_try_rule(
+        i: usize, o: usize, rule: *const u8, rule_length: usize,
+        letters: *const u8, letters_length: usize, satisfied: *mut u8, place: *mut usize,
+    ) -> u8;
+}
+
+/// What a call handed back: the number, and the values it may have written.
+#[derive(Clone, Copy, Debug)]
+pub struct Told {
+    pub number: u8,
+    pub answer: u8,
+    pub n: usize,
+    pub place: usize,
+}
+
+/// What the follower handed back.
+#[derive(Clone, Copy, Debug)]
+pub struct Followed {
+    pub number: u8,
+    pub state: usize,
+    pub reached: u8,
+    pub row: u8,
+    pub output: u8,
+    pub place: usize,
+}
+
+/// A byte no call would hand back by itself.
+pub const ODD: u8 = 0xA5;
+
+/// The mode as a byte: 0 is fair, any other stable.
+pub fn mode_byte(mode: Mode, any: u8) -> u8 {
+    match mode {
+        Mode::Fair => 0,
+        Mode::Stable => any.max(1),
+    }
+}
+
+/// The library's call for a rule.
+#[allow(clippy::too_many_arguments)]
+pub fn solve_rule(
+    i: usize,
+    o: usize,
+    mode: u8,
+    rule: &[u8],
+    condition: &[u8],
+    moves: &mut Lent,
+    marks: &mut Lent,
+    station: &mut Lent,
+    outside: &mut Lent,
+) -> Told {
+    let mut told = Told { number: 0, answer: ODD, n: SENTINEL, place: SENTINEL };
+    told.number = unsafe {
+        airtable_solve_rule(
+            i,
+            o,
+            mode,
+            rule.as_ptr(),
+            rule.len(),
+            condition.as_ptr(),
+            condition.len(),
+            moves.pointer(),
+            moves.told,
+            marks.pointer(),
+            marks.told,
+            station.pointer(),
+            station.told,
+            outside.pointer(),
+            outside.told,
+            &mut told.answer,
+            &mut told.n,
+            &mut told.place,
+        )
+    };
+    told
+}
+
+/// The library's call for a given automaton.
+#[allow(clippy::too_many_arguments)]
+pub fn solve_given(
+    i: usize,
+    o: usize,
+    mode: u8,
+    n: usize,
+    moves: &[u8],
+    marks: &[u8],
+    start: usize,
+    mask: u16,
+    station: &mut Lent,
+    outside: &mut Lent,
+) -> Told {
+    let mut told = Told { number: 0, answer: ODD, n: SENTINEL, place: SENTINEL };
+    told.number = unsafe {
+        airtable_solve_given(
+            i,
+            o,
+            mode,
+            n,
+            moves.as_ptr(),
+            moves.len(),
+            marks.as_ptr(),
+            marks.len(),
+            start,
+            mask,
+            station.pointer(),
+            station.told,
+            outside.pointer(),
+            outside.told,
+            &mut told.answer,
+            &mut told.place,
+        )
+    };
+    told
+}
+
+/// The library's follower.
+#[allow(clippy::too_many_arguments)]
+pub fn follow(
+    i: usize,
+    o: usize,
+    n: usize,
+    moves: &[u8],
+    marks: &[u8],
+    station: &[u8],
+    input: usize,
+    state: usize,
+    reached: bool,
+) -> Followed {
+    let mut told = Followed { number: 0, state, reached: reached as u8, row: ODD, output: ODD, place: SENTINEL };
+    told.number = unsafe {
+        airtable_follow(
+            i,
+            o,
+            n,
+            moves.as_ptr(),
+            moves.len(),
+            marks.as_ptr(),
+            marks.len(),
+            station.as_ptr(),
+            station.len(),
+            input,
+            &mut told.state,
+            &mut told.reached,
+            &mut told.row,
+            &mut told.output,
+            &mut told.place,
+        )
+    };
+    told
+}
+
+/// The library's trial.
+pub fn try_rule(i: usize, o: usize, rule: &[u8], letters: &[u8]) -> Told {
+    let mut told = Told { number: 0, answer: ODD, n: SENTINEL, place: SENTINEL };
+    told.number = unsafe {
+        airtable_try_rule(
+            i,
+            o,
+            rule.as_ptr(),
+            rule.len(),
+            letters.as_ptr(),
+            letters.len(),
+            &mut told.answer,
+            &mut told.place,
+        )
+    };
+    told
+}

@@ -1,0 +1,161 @@
+//! README: what all kinds of cases share: lent buffers with canaries, the comparing of refusals,
+//! the choice of signatures and lengths, the tally, and the printing of bytes.
+
+use crate::capi::Told;
+use solver::calls::Refusal;
+use solver::chance::Chance;
+use solver::Mode;
+use std::collections::BTreeMap;
+
+/// A value no call would hand back by itself.
+pub const SENTINEL: usize = 0x0DEA_DBEE_F0DE_ADBE;
+
+/// Bytes behind every lent buffer that no call may touch.
+const GUARD: usize = 24;
+
+/// A buffer lent for writing: the call is told of `told` bytes, and some more lie behind them.
+#[derive(Clone, Debug)]
+pub struct Lent {
+    pub bytes: Vec<u8>,
+    pub before: Vec<u8>,
+    pub told: usize,
+}
+
+impl Lent {
+    /// A buffer of a length with random old contents.
+    pub fn new(chance: &mut Chance, told: usize) -> Lent {
+        let bytes = chance.bytes(told + GUARD);
+        Lent { before: bytes.clone(), bytes, told }
+    }
+
+    /// Where the buffer begins.
+    pub fn pointer(&mut self) -> *mut u8 {
+        self.bytes.as_mut_ptr()
+    }
+
+    /// The old contents that the call was told of.
+    pub fn old(&self) -> Vec<u8> {
+        self.before[..self.told].to_vec()
+    }
+
+    /// Checks that the told bytes are now `wanted` and the guard is as it was.
+    pub fn check(&self, name: &str, wanted: &[u8]) -> Result<(), String> {
+        let wanted: Vec<u8> = [wanted, &self.before[self.told..]].concat();
+        match (0..wanted.len()).find(|&k| wanted[k] != self.bytes[k]) {
+            None => Ok(()),
+            Some(k) => Err(format!("{name}: byte {k} of {} is {}, wanted {}", self.told, self.bytes[k], wanted[k])),
+        }
+    }
+
+    /// Checks that nothing was written.
+    pub fn untouched(&self, name: &str) -> Result<(), String> {
+        self.check(name, &self.before[..self.told])
+    }
+}
+
+/// Counts of what the cases came to.
+#[derive(Default)]
+pub struct Tally {
+    pub counts: BTreeMap<String, u64>,
+    pub notes: BTreeMap<String, u64>,
+}
+
+impl Tally {
+    /// Counts one case of a kind.
+    pub fn count(&mut self, what: String) {
+        *self.counts.entry(what).or_insert(0) += 1;
+    }
+
+    /// Notes something that 01 leaves open and that looks odd.
+    pub fn note(&mut self, what: &str) {
+        *self.notes.entry(what.to_string()).or_insert(0) += 1;
+    }
+}
+
+/// Compares a place: exactly where 01 names one; else 0 or the value it had before.
+pub fn check_place(place: usize, wanted: Option<usize>, tally: &mut Tally) -> Result<(), String> {
+    match wanted {
+        Some(k) if place != k => Err(format!("place {place}, wanted {k}")),
+        None if place != 0 && place != SENTINEL => {
+            tally.note("a place that 01 leaves open is neither 0 nor as before");
+            Ok(())
+        }
+        _ => Ok(()),
+    }
+}
+
+/// Compares number and place of a call with the solver's answer; `Ok` is number 0.
+pub fn check_number(told: &Told, wanted: Result<(), Refusal>, tally: &mut Tally) -> Result<(), String> {
+    let (number, place) = match wanted {
+        Ok(()) => (0, None),
+        Err(refusal) => (refusal.number, refusal.place),
+    };
+    if told.number != number {
+        return Err(format!("number {} (place {}), wanted {number} (place {place:?})", told.number, told.place));
+    }
+    if number != 0 && told.answer != crate::capi::ODD && told.answer != 0 {
+        tally.note("a refusal wrote a verdict other than 0");
+    }
+    check_place(told.place, place, tally)
+}
+
+/// Compares a verdict byte, which has to be 0 or 1.
+pub fn check_answer(answer: u8, wanted: bool) -> Result<(), String> {
+    if answer == wanted as u8 {
+        Ok(())
+    } else {
+        Err(format!("answer {answer}, wanted {}", wanted as u8))
+    }
+}
+
+/// Bytes in a form that can be typed in again.
+pub fn hex(bytes: &[u8]) -> String {
+    bytes.iter().map(|byte| format!("{byte:02x}")).collect()
+}
+
+/// A text both as hex and as it reads.
+pub fn shown(text: &[u8]) -> String {
+    format!("hex {} = \"{}\"", hex(text), text.escape_ascii())
+}
+
+/// Some count far too large.
+fn huge(chance: &mut Chance) -> usize {
+    chance.pick(&[6, 7, 8, 31, 32, 60, 63, 64, 65, 128, 255, 256, 260, 1 << 32, 1 << 63, usize::MAX - 3, usize::MAX])
+}
+
+/// A count of inputs or outputs: mostly small, sometimes 5 or huge.
+pub fn wild_count(chance: &mut Chance, most: usize) -> usize {
+    match chance.below(40) {
+        0 => 5,
+        1 => huge(chance),
+        _ => chance.between(0, most),
+    }
+}
+
+/// A mode.
+pub fn any_mode(chance: &mut Chance) -> Mode {
+    if chance.one_in(2) {
+        Mode::Fair
+    } else {
+        Mode::Stable
+    }
+}
+
+/// A buffer length that suffices: exact, one more, or some more.
+pub fn enough(chance: &mut Chance, exact: usize) -> usize {
+    match chance.below(4) {
+        0 | 1 => exact,
+        2 => exact + 1,
+        _ => exact + chance.below(400),
+    }
+}
+
+/// A buffer length that may be one short, far short or empty.
+pub fn wild_length(chance: &mut Chance, exact: usize) -> usize {
+    match chance.below(6) {
+        0 => exact.saturating_sub(1),
+        1 => chance.below(exact + 1),
+        2 => 0,
+        _ => enough(chance, exact),
+    }
+}

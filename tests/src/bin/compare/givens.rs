@@ -1,0 +1,188 @@
+//! README: the call for a given automaton: shapes of every kind, refusals with several faults at
+//! once, and buffers.
+
+use crate::capi::{self, mode_byte};
+use crate::common::*;
+use solver::calls::{game_of_given, solve_given, Given, Refusal};
+use solver::chance::Chance;
+use solver::judge::judge_buffers;
+use solver::makers::game_shape;
+use solver::Mode;
+
+/// One call for a given automaton.
+pub struct Case {
+    pub i: usize,
+    pub o: usize,
+    pub mode: Mode,
+    pub given: Given,
+    pub station: Lent,
+    pub outside: Lent,
+}
+
+impl Case {
+    /// A case without faults on n states.
+    pub fn good(chance: &mut Chance, i: usize, o: usize, n: usize) -> Case {
+        let (mut moves, mut marks) = game_shape(chance, i, o, n);
+        if chance.one_in(4) {
+            let more = chance.below(20);
+            moves.extend(chance.bytes(more));
+            marks.extend(chance.bytes(more));
+        }
+        let mask = (chance.next() & ((1u64 << (1 << i)) - 1)) as u16;
+        let mask = if chance.one_in(5) { chance.pick(&[0, ((1u32 << (1 << i)) - 1) as u16]) } else { mask };
+        let start = chance.below(n);
+        let (station, outside) = (enough(chance, 128 << i), enough(chance, 128));
+        Case {
+            i,
+            o,
+            mode: any_mode(chance),
+            given: Given { n, moves, marks, start, mask },
+            station: Lent::new(chance, station),
+            outside: Lent::new(chance, outside),
+        }
+    }
+
+    /// Compares all that is determined, and has the tables judged.
+    pub fn compare(&mut self, any: u8, tally: &mut Tally) -> Result<(), String> {
+        let (moves, marks) = (self.given.moves.clone(), self.given.marks.clone());
+        let told = capi::solve_given(
+            self.i,
+            self.o,
+            mode_byte(self.mode, any),
+            self.given.n,
+            &moves,
+            &marks,
+            self.given.start,
+            self.given.mask,
+            &mut self.station,
+            &mut self.outside,
+        );
+        if moves != self.given.moves || marks != self.given.marks {
+            return Err("moves or marks were written".into());
+        }
+        let (mut station, mut outside) = (self.station.old(), self.outside.old());
+        let wanted = solve_given(self.i, self.o, self.mode, &self.given, &mut station, &mut outside);
+        check_number(&told, wanted.map(|_| ()), tally)?;
+        match wanted {
+            Err(refusal) => self.refused(refusal, tally),
+            Ok(can) => {
+                tally.count(format!("given: {}", if can { "can" } else { "cannot" }));
+                check_answer(told.answer, can)?;
+                self.judged(told.answer)
+            }
+        }
+    }
+
+    /// After a refusal the tables are untouched.
+    fn refused(&self, refusal: Refusal, tally: &mut Tally) -> Result<(), String> {
+        tally.count(format!("given: refused {:2}", refusal.number));
+        self.station.untouched("station")?;
+        self.outside.untouched("outside")
+    }
+
+    /// Has the tables judged, and the winners compared with the fixpoints.
+    fn judged(&self, answer: u8) -> Result<(), String> {
+        let game = game_of_given(self.i, self.o, self.mode, &self.given);
+        let station = (&self.station.bytes[..], &self.station.before[..]);
+        let outside = (&self.outside.bytes[..], &self.outside.before[..]);
+        let wins = judge_buffers(&game, station, outside)?;
+        if wins != solver::game::winners(&game) {
+            return Err("the winners differ from the fixpoints, though the judge let the tables pass".into());
+        }
+        check_answer(answer, wins[self.given.start])
+    }
+
+    /// The case in a form that can be typed in again.
+    pub fn print(&self, what: String) -> String {
+        let Given { n, moves, marks, start, mask } = &self.given;
+        format!(
+            "{what}\nsolve_given i={} o={} mode={:?} n={n} start={start} mask={mask:#06x}\nmoves ({} bytes) hex {}\nmarks ({} bytes) hex {}\nlengths station={} outside={}",
+            self.i, self.o, self.mode, moves.len(), hex(moves), marks.len(), hex(marks),
+            self.station.told, self.outside.told
+        )
+    }
+
+    /// Compares and prints the case where something differs.
+    pub fn run(mut self, chance: &mut Chance, tally: &mut Tally) -> Result<(), String> {
+        let any = chance.byte();
+        self.compare(any, tally).map_err(|what| self.print(what))
+    }
+}
+
+/// Small automata without faults.
+pub fn small(chance: &mut Chance, tally: &mut Tally) -> Result<(), String> {
+    let most = chance.pick(&[2, 4, 8, 16, 30]);
+    let n = chance.between(1, most);
+    let (i, o) = (chance.below(4), chance.below(3));
+    Case::good(chance, i, o, n).run(chance, tally)
+}
+
+/// Large automata without faults.
+pub fn large(chance: &mut Chance, tally: &mut Tally) -> Result<(), String> {
+    let n = if chance.one_in(3) { chance.between(126, 128) } else { chance.between(30, 128) };
+    let (i, o) = (chance.below(5), chance.below(5));
+    Case::good(chance, i, o, n).run(chance, tally)
+}
+
+/// Puts a move of n or more at the first, the last, some place, several, or just beyond the used part.
+fn bad_move(chance: &mut Chance, given: &mut Given, used: usize) {
+    let byte = chance.between(given.n, 255) as u8;
+    for _ in 0..chance.between(1, 2) {
+        let at = match chance.below(5) {
+            0 => 0,
+            1 => used - 1,
+            2 => used,
+            _ => chance.below(used),
+        };
+        if at < given.moves.len() {
+            given.moves[at] = byte;
+        } else if at == given.moves.len() {
+            given.moves.push(byte);
+        }
+    }
+}
+
+/// Puts in one fault of the given call, or something that looks like one.
+fn spoil(chance: &mut Chance, case: &mut Case) {
+    let (i, o) = (case.i.min(4), case.o.min(4));
+    let n = case.given.n;
+    match chance.below(8) {
+        0 => case.i = wild_count(chance, 5),
+        1 => case.o = wild_count(chance, 5),
+        2 => {
+            case.given.n =
+                chance.pick(&[0, 129, 130, 255, 256, 257, usize::MAX, n.saturating_sub(1), n.saturating_add(1)])
+        }
+        3 => case.given.start = chance.pick(&[n, n.saturating_add(1), n.saturating_sub(1), 128, 255, 256, usize::MAX]),
+        4 if n > 0 && n < 255 && case.given.moves.len() >= n << (i + o) => {
+            bad_move(chance, &mut case.given, n << (i + o))
+        }
+        5 => case.given.mask |= 1 << chance.below(16),
+        6 => {
+            let length = wild_length(chance, 128 << i);
+            case.station = Lent::new(chance, length);
+            let length = wild_length(chance, 128);
+            case.outside = Lent::new(chance, length);
+        }
+        _ => {
+            let (moves, marks) = (wild_length(chance, n.min(128) << (i + o)), wild_length(chance, n.min(128)));
+            if chance.one_in(2) {
+                case.given.moves.resize(moves, 0)
+            } else {
+                case.given.marks.resize(marks, 0)
+            }
+        }
+    }
+}
+
+/// One, two or three faults at once.
+pub fn faults(chance: &mut Chance, tally: &mut Tally) -> Result<(), String> {
+    let most = chance.pick(&[3, 6, 128]);
+    let n = chance.between(1, most);
+    let (i, o) = (chance.below(3), chance.below(3));
+    let mut case = Case::good(chance, i, o, n);
+    for _ in 0..chance.between(1, 3) {
+        spoil(chance, &mut case);
+    }
+    case.run(chance, tally)
+}

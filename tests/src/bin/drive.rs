@@ -1,0 +1,228 @@
+//! README: runs the built program `airtable` over seeded inputs on its standard input and compares
+//! its standard output with the solver's listing. Where table bytes are free the listing is taken
+//! apart and its rows are judged.
+//!
+//!   drive PATH_TO_AIRTABLE [--seed N] [--times K]
+
+use solver::automaton::build;
+use solver::calls::{game_of, Verdict};
+use solver::chance::Chance;
+use solver::judge::judge;
+use solver::large::LARGE;
+use solver::listing::{airtable, head, lines, tables_of};
+use solver::makers::{any_condition, any_text, damaged, good_condition, rule_text};
+use solver::reader::read;
+use solver::tree::condition_mask;
+use solver::wording::Wording;
+use std::collections::BTreeMap;
+use std::io::{Read, Write};
+use std::process::{Command, Stdio};
+
+/// Inputs by hand: the readings of 01, the printed example, shapes that are no four lines.
+const BY_HAND: &[&[u8]] = &[
+    b"1 0\nfair\n1\nFa\n",
+    b"1 1\nfair\n1\nFp\n",
+    b"1 1\nfair\n1\nFa\n",
+    b"1 1\nfair\na\nFa\n",
+    b"1 1\nfair\n0\nFa\n",
+    b"1 1\nstable\na\nGa\n",
+    b"1 1\nfair\na\nF(a&Xa)\n",
+    b"1 1\nstable\na\nF(a&Xa)\n",
+    b"1 1\nfair\n1\nXa\n",
+    b"1 1\nfair\n1\nNa\n",
+    b"1 1\nfair\n1\na&p|!a&!p\n",
+    b"1 1\nfair\na\npUa\n",
+    b"1 1\nfair\n1\nXXXXXa\n",
+    b"1 1\nfair\n1\nXXXXXXa\n",
+    b"1 1\nfair\n1\n\n",
+    b"1 1\nfair\n\n\n",
+    b"1 1\nfair\n\nFa\n",
+    b"4 4\nfair\n1\nF((a|Gp)&(b|Gq)&(c|Gr)&(d|Gs))\n",
+    b"4 4\nfair\n1\n((Gp|a)&(a>c))U((b|Gq)&(c|Gr)&(r|Gs))\n",
+    b"4 4\nstable\na|b\n((Gp|a)&(a>c))U((b|Gq)&(c|Gr)&(r|Gs))\n",
+    b"",
+    b"\n",
+    b"\n\n\n\n",
+    b"1 1",
+    b"1 1\nfair\n1\nFp",
+    b"1 1\nfair\n1\nFp\n\n",
+    b"1 1\nfair\n1\nFp\n ",
+    b"1 1\nfair\n1\n",
+    b"1 1\nFAIR\n1\nFp\n",
+    b"1 1\nfair \n1\nFp\n",
+    b" 1 1\nfair\n1\nFp\n",
+    b"1  1\nfair\n1\nFp\n",
+    b"11\nfair\n1\nFp\n",
+    b"1 1 \nfair\n1\nFp\n",
+    b"01 1\nfair\n1\nFp\n",
+    b"5 1\nfair\n1\nFp\n",
+    b"1 9\nstable\n1\nFp\n",
+    b"10 1\nfair\n1\nFp\n",
+    b"-1 1\nfair\n1\nFp\n",
+    b"+1 1\nfair\n1\nFp\n",
+    b"a 1\nfair\n1\nFp\n",
+    b"1\t1\nfair\n1\nFp\n",
+    b"1 1\r\nfair\n1\nFp\n",
+    b"1 1\nfair\r\n1\nFp\n",
+    b"1 1\nfair\n1\r\nFp\n",
+    b"1 1\nfair\n1\nFp\r\n",
+    b"1 1\nfair\np\nFp\n",
+    b"1 1\nfair\nXa\nFp\n",
+    b"1 1\nfair\naUa\nFp\n",
+    b"0 0\nfair\n1\nF1\n",
+    b"0 0\nstable\n0\n0\n",
+    b"0 4\nfair\n1\nF(p&q&r&s)\n",
+    b"4 0\nstable\na&b\nF(a&c)\n",
+    b"0 0\nfair\na\n1\n",
+    b"1 1\nfair\n1\nFp\xff\n",
+    b"1 1\nfair\n1\n\xc3\xa4\n",
+    b"1 1\nfair\n1\nF\x00p\n",
+    b"1 1\n\n1\nFp\n",
+];
+
+/// An input line of some length with both ends of the limits.
+fn long_input(chance: &mut Chance) -> Vec<u8> {
+    let mut bytes = b"1 1\nfair\n1\n".to_vec();
+    let whole = chance.pick(&[266, 267, 268, 1000, 2046, 2047, 2048, 2049, 2050, 5000]);
+    bytes.push(b'p');
+    bytes.resize(whole - 1, b' ');
+    bytes.push(b'\n');
+    bytes
+}
+
+/// Texts at the limits: 64 nodes or 65, 255 bytes or 256, five operators or six; sometimes both
+/// texts at once.
+fn limit_input(chance: &mut Chance) -> Vec<u8> {
+    let at_limit = |chance: &mut Chance, prefix: u8| {
+        let mut text = vec![prefix; chance.pick(&[3, 5, 6, 63, 64])];
+        text.push(b'a');
+        if chance.one_in(3) {
+            text.resize(chance.pick(&[255, 256]), b' ');
+        }
+        text
+    };
+    let prefix = chance.pick(b"!!X");
+    let (rule, condition) = (at_limit(chance, prefix), at_limit(chance, b'!'));
+    let rule = if chance.one_in(2) { b"Fp".to_vec() } else { rule };
+    let mode = chance.pick(&[&b"fair"[..], b"stable"]);
+    [b"1 1\n", mode, b"\n", &condition, b"\n", &rule, b"\n"].concat()
+}
+
+/// A rule with about 128 states.
+fn large_input(chance: &mut Chance) -> Vec<u8> {
+    let (_, i, o, rule) = chance.pick(LARGE);
+    let mode = chance.pick(&[&b"fair"[..], b"stable"]);
+    let condition = good_condition(chance, i);
+    [format!("{i} {o}\n").as_bytes(), mode, b"\n", &condition, b"\n", rule, b"\n"].concat()
+}
+
+/// Four good lines.
+fn good_input(chance: &mut Chance) -> Vec<u8> {
+    let most = chance.pick(&[1, 2, 2, 3]);
+    let (i, o) = (chance.below(most + 1), chance.below(most + 1));
+    let size = chance.between(1, 16);
+    let mode = chance.pick(&[&b"fair"[..], b"stable"]);
+    let condition = good_condition(chance, i);
+    let rule = rule_text(chance, i, o, size, 4);
+    [format!("{i} {o}\n").as_bytes(), mode, b"\n", &condition, b"\n", &rule, b"\n"].concat()
+}
+
+/// Four lines of any kind.
+fn any_input(chance: &mut Chance) -> Vec<u8> {
+    let (i, o) = (chance.below(7), chance.below(7));
+    let (i, o) = (if i > 4 { i } else { i.min(2) }, if o > 4 { o } else { o.min(2) });
+    let mode = chance.pick(&[&b"fair"[..], b"stable", b"stable", b"fair", b"Fair", b""]);
+    let (condition, rule) = (any_condition(chance, i), any_text(chance, i, o));
+    [format!("{i} {o}\n").as_bytes(), mode, b"\n", &condition, b"\n", &rule, b"\n"].concat()
+}
+
+/// The k-th input.
+fn input(chance: &mut Chance, k: usize) -> Vec<u8> {
+    if let Some(bytes) = BY_HAND.get(k) {
+        return bytes.to_vec();
+    }
+    match chance.below(12) {
+        0 => long_input(chance),
+        10 => limit_input(chance),
+        11 => large_input(chance),
+        1 => {
+            let good = good_input(chance);
+            damaged(chance, good)
+        }
+        2 | 3 => any_input(chance),
+        _ => good_input(chance),
+    }
+}
+
+/// Runs the program on an input and hands back what it prints.
+fn run(program: &str, bytes: &[u8]) -> Result<Vec<u8>, String> {
+    let mut child = Command::new(program)
+        .stdin(Stdio::piped())
+        .stdout(Stdio::piped())
+        .spawn()
+        .map_err(|error| format!("cannot start {program}: {error}"))?;
+    let mut stdin = child.stdin.take().expect("a pipe");
+    // The program may stop reading early; that is no fault of the input.
+    let _ = stdin.write_all(bytes);
+    drop(stdin);
+    let mut text = vec![];
+    child.stdout.take().expect("a pipe").read_to_end(&mut text).map_err(|error| error.to_string())?;
+    child.wait().map_err(|error| error.to_string())?;
+    Ok(text)
+}
+
+/// Compares a listing: refusals exactly, else the head exactly and the rows by the judge.
+fn compare(bytes: &[u8], text: &[u8]) -> Result<String, String> {
+    let wanted = airtable(bytes);
+    if wanted.starts_with(b"refused") {
+        return match text == wanted {
+            true => Ok(String::from_utf8_lossy(&wanted).split(' ').take(2).collect::<Vec<_>>().join(" ")),
+            false => Err("the refusals differ".into()),
+        };
+    }
+    let lines = lines(bytes).expect("four lines");
+    let tree = read(&lines.rule, Wording::rule(lines.i, lines.o)).expect("a rule");
+    let condition = read(&lines.condition, Wording::condition(lines.i)).expect("a condition");
+    let automaton = build(&tree, lines.i, lines.o, 128).expect("at most 128 states");
+    let mask = condition_mask(&condition, lines.i);
+    let game = game_of(&automaton, lines.i, lines.o, mask, lines.mode);
+    let winners = solver::game::winners(&game);
+    let head = head(Verdict { can: winners[0], n: game.n });
+    let (station, outside) = tables_of(text, &head, lines.i, &game.goals)?;
+    if judge(&game, &station, &outside)? != winners {
+        return Err("the winners differ".into());
+    }
+    Ok(head.split(' ').next().unwrap_or("").to_string())
+}
+
+/// The value after a word of the command line, or a default.
+fn option(word: &str, default: u64) -> u64 {
+    let words: Vec<String> = std::env::args().collect();
+    let at = words.iter().position(|other| other == word);
+    at.map_or(default, |k| words[k + 1].parse().expect("a number"))
+}
+
+/// Runs all inputs; prints the first difference and ends with 1, or the counts.
+fn main() {
+    let program = std::env::args().nth(1).expect("usage: drive PATH_TO_AIRTABLE [--seed N] [--times K]");
+    let (seed, times) = (option("--seed", 1), option("--times", 1));
+    let mut counts = BTreeMap::new();
+    for k in 0..600 * times {
+        let bytes = input(&mut Chance::new(seed, 0, k), k as usize);
+        let text = run(&program, &bytes).unwrap_or_else(|what| panic!("{what}"));
+        match compare(&bytes, &text) {
+            Ok(kind) => *counts.entry(kind).or_insert(0) += 1,
+            Err(what) => {
+                println!("DIFFERENCE in input {k} of seed {seed}: {what}");
+                println!("input   \"{}\"", bytes.escape_ascii());
+                println!("printed \"{}\"", text.escape_ascii());
+                println!("solver  \"{}\"", airtable(&bytes).escape_ascii());
+                std::process::exit(1);
+            }
+        }
+    }
+    for (kind, count) in counts {
+        println!("{count:9}  {kind}");
+    }
+    println!("no difference, seed {seed}");
+}

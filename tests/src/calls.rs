@@ -1,0 +1,230 @@
+//! README: the calls of 01 with their refusals in 01's order and the buffers after. Everything is
+//! checked first, in the order of 01's last table, and only then is anything written.
+
+use crate::automaton::{build, Automaton};
+use crate::game::Game;
+use crate::meaning::satisfies;
+use crate::reader::read;
+use crate::tables::{self, Tables};
+use crate::tree::{condition_mask, Tree};
+use crate::wording::Wording;
+use crate::Mode;
+
+/// A refusal: its number, and a place or index where 01 names one.
+#[derive(Clone, Copy, Debug, PartialEq, Eq)]
+pub struct Refusal {
+    pub number: u8,
+    pub place: Option<usize>,
+}
+
+/// The four buffers of the call for a rule.
+#[derive(Clone, Debug, PartialEq, Eq)]
+pub struct Buffers {
+    pub moves: Vec<u8>,
+    pub marks: Vec<u8>,
+    pub station: Vec<u8>,
+    pub outside: Vec<u8>,
+}
+
+/// What the call for a rule hands back: the verdict and the count of states.
+#[derive(Clone, Copy, Debug, PartialEq, Eq)]
+pub struct Verdict {
+    pub can: bool,
+    pub n: usize,
+}
+
+/// An automaton given directly.
+#[derive(Clone, Debug)]
+pub struct Given {
+    pub n: usize,
+    pub moves: Vec<u8>,
+    pub marks: Vec<u8>,
+    pub start: usize,
+    pub mask: u16,
+}
+
+/// A follower's step: the output and the next position.
+#[derive(Clone, Copy, Debug, PartialEq, Eq)]
+pub struct Step {
+    pub output: u8,
+    pub state: usize,
+    pub reached: bool,
+}
+
+/// A refusal without a place if `wrong`.
+fn refuse_if(wrong: bool, number: u8) -> Result<(), Refusal> {
+    if wrong {
+        Err(Refusal { number, place: None })
+    } else {
+        Ok(())
+    }
+}
+
+/// Reads a rule under the limits: refusals 4, 5 and 6.
+fn read_rule(i: usize, o: usize, rule: &[u8]) -> Result<Tree, Refusal> {
+    let tree = read(rule, Wording::rule(i, o)).map_err(|k| Refusal { number: 4, place: Some(k) })?;
+    refuse_if(tree.count() > 64, 5)?;
+    refuse_if(tree.operators().len() > 5, 6)?;
+    Ok(tree)
+}
+
+/// Reads a condition under the limits: refusals 7 and 8.
+fn read_condition(i: usize, condition: &[u8]) -> Result<Tree, Refusal> {
+    let tree = read(condition, Wording::condition(i)).map_err(|k| Refusal { number: 7, place: Some(k) })?;
+    refuse_if(tree.count() > 64, 8)?;
+    Ok(tree)
+}
+
+/// Whether one of the four buffers is too short for a rule.
+fn too_short(i: usize, o: usize, buffers: &Buffers) -> bool {
+    buffers.moves.len() < 128 << (i + o)
+        || buffers.marks.len() < 128
+        || buffers.station.len() < 128 << i
+        || buffers.outside.len() < 128
+}
+
+/// Reads rule and condition after all earlier checks: refusals 1 to 8.
+fn rule_and_condition(
+    i: usize,
+    o: usize,
+    rule: &[u8],
+    condition: &[u8],
+    buffers: &Buffers,
+) -> Result<(Tree, u16), Refusal> {
+    refuse_if(i > 4 || o > 4, 1)?;
+    refuse_if(rule.len() > 255 || condition.len() > 255, 2)?;
+    refuse_if(too_short(i, o, buffers), 3)?;
+    let tree = read_rule(i, o, rule)?;
+    let condition = read_condition(i, condition)?;
+    Ok((tree, condition_mask(&condition, i)))
+}
+
+/// Writes the front of a buffer and fills the rest of its share.
+fn write(buffer: &mut [u8], share: usize, front: &[u8], filler: u8) {
+    buffer[..share].fill(filler);
+    buffer[..front.len()].copy_from_slice(front);
+}
+
+/// Writes both tables into their buffers.
+fn write_tables(i: usize, tables: &Tables, station: &mut [u8], outside: &mut [u8]) {
+    write(station, 128 << i, &tables.station, 255);
+    write(outside, 128, &tables.outside, 255);
+}
+
+/// The game on a rule's automaton.
+pub fn game_of(automaton: &Automaton, i: usize, o: usize, mask: u16, mode: Mode) -> Game {
+    let (moves, goals) = (automaton.moves.clone(), automaton.goals.clone());
+    Game { i, o, n: automaton.n(), moves, goals, mask, mode }
+}
+
+/// The call for a rule.
+pub fn solve_rule(
+    i: usize,
+    o: usize,
+    mode: Mode,
+    rule: &[u8],
+    condition: &[u8],
+    buffers: &mut Buffers,
+) -> Result<Verdict, Refusal> {
+    let (tree, mask) = rule_and_condition(i, o, rule, condition, buffers)?;
+    let Some(automaton) = build(&tree, i, o, 128) else {
+        buffers.moves[..128 << (i + o)].fill(0);
+        return Err(Refusal { number: 9, place: None });
+    };
+    let game = game_of(&automaton, i, o, mask, mode);
+    let tables = tables::build(&game);
+    let moves: Vec<u8> = game.moves.iter().map(|&t| t as u8).collect();
+    let marks: Vec<u8> = game.goals.iter().map(|&goal| goal as u8).collect();
+    write(&mut buffers.moves, 128 << (i + o), &moves, 0);
+    write(&mut buffers.marks, 128, &marks, 0);
+    write_tables(i, &tables, &mut buffers.station, &mut buffers.outside);
+    Ok(Verdict { can: tables.outside[0] == 255, n: game.n })
+}
+
+/// The refusals of the call for a given automaton, in its order: 1, 10, 3, 12, 11, 13.
+fn check_given(i: usize, o: usize, given: &Given, station: usize, outside: usize) -> Result<(), Refusal> {
+    refuse_if(i > 4 || o > 4, 1)?;
+    refuse_if(given.n == 0 || given.n > 128, 10)?;
+    let used = given.n << (i + o);
+    let short = given.moves.len() < used || given.marks.len() < given.n;
+    refuse_if(short || station < 128 << i || outside < 128, 3)?;
+    refuse_if(given.start >= given.n, 12)?;
+    if let Some(index) = given.moves[..used].iter().position(|&t| t as usize >= given.n) {
+        return Err(Refusal { number: 11, place: Some(index) });
+    }
+    refuse_if((1usize << i..16).any(|x| given.mask >> x & 1 == 1), 13)
+}
+
+/// The game on a given automaton that has passed its checks.
+pub fn game_of_given(i: usize, o: usize, mode: Mode, given: &Given) -> Game {
+    let moves = given.moves[..given.n << (i + o)].iter().map(|&t| t as usize).collect();
+    let goals = given.marks[..given.n].iter().map(|&mark| mark != 0).collect();
+    Game { i, o, n: given.n, moves, goals, mask: given.mask, mode }
+}
+
+/// The call for a given automaton; hands back the verdict.
+pub fn solve_given(
+    i: usize,
+    o: usize,
+    mode: Mode,
+    given: &Given,
+    station: &mut [u8],
+    outside: &mut [u8],
+) -> Result<bool, Refusal> {
+    check_given(i, o, given, station.len(), outside.len())?;
+    let tables = tables::build(&game_of_given(i, o, mode, given));
+    write_tables(i, &tables, station, outside);
+    Ok(tables.outside[given.start] == 255)
+}
+
+/// The follower's lent buffers.
+#[derive(Clone, Copy, Debug)]
+pub struct Lent<'a> {
+    pub n: usize,
+    pub moves: &'a [u8],
+    pub marks: &'a [u8],
+    pub station: &'a [u8],
+}
+
+/// The follower's refusals before the row is looked at: 1, 10, 3, 12, 13.
+fn check_follow(i: usize, o: usize, lent: Lent, input: usize, state: usize) -> Result<(), Refusal> {
+    refuse_if(i > 4 || o > 4, 1)?;
+    refuse_if(lent.n == 0 || lent.n > 128, 10)?;
+    let short = lent.moves.len() < lent.n << (i + o) || lent.marks.len() < lent.n || lent.station.len() < lent.n << i;
+    refuse_if(short, 3)?;
+    refuse_if(state >= lent.n, 12)?;
+    refuse_if(input >= 1 << i, 13)
+}
+
+/// The follower: a step, or nothing for "no row".
+pub fn follow(
+    i: usize,
+    o: usize,
+    lent: Lent,
+    input: usize,
+    state: usize,
+    reached: bool,
+) -> Result<Option<Step>, Refusal> {
+    check_follow(i, o, lent, input, state)?;
+    let output = lent.station[(state << i) + input];
+    if output as usize >= 1 << o {
+        return Ok(None);
+    }
+    let index = (state << (i + o)) + input + ((output as usize) << i);
+    let next = lent.moves[index] as usize;
+    if next >= lent.n {
+        return Err(Refusal { number: 11, place: Some(index) });
+    }
+    Ok(Some(Step { output, state: next, reached: reached || lent.marks[next] != 0 }))
+}
+
+/// The trial: whether a list of letters satisfies a rule. Refusals 1, 2, 4, 5, 6, 13.
+pub fn try_rule(i: usize, o: usize, rule: &[u8], letters: &[u8]) -> Result<bool, Refusal> {
+    refuse_if(i > 4 || o > 4, 1)?;
+    refuse_if(rule.len() > 255, 2)?;
+    let tree = read_rule(i, o, rule)?;
+    if let Some(index) = letters.iter().position(|&letter| letter as usize >= 1 << (i + o)) {
+        return Err(Refusal { number: 13, place: Some(index) });
+    }
+    Ok(satisfies(&tree, i, letters))
+}

@@ -1,0 +1,30 @@
+//! README: rules with about 128 states, found by search; each with its count, i and o.
+
+/// Count of states, i, o, rule.
+pub const LARGE: &[(usize, usize, usize, &[u8])] = &[
+    (128, 4, 4, b"((Gp|a)&(a>c))U((b|Gq)&(c|Gr)&(r|Gs))"),
+    (169, 4, 4, b"F((a|Gp)&(b|Gq)&(c|Gr)&(d|Gs))"),
+    (128, 3, 4, b"((s|Fp)&(q>Gq))U((b|Gr)&(s|Gr)&(!s>r))"),
+    (127, 2, 4, b"((s|Fr)&(p>Ga))R((q|G!q)&(b>Ga))"),
+    (127, 3, 4, b"((p>Gb)&(q>Gs))R((p|Fa)&(c&Fr)&(a>c)&(r|!a))"),
+    (131, 2, 4, b"((p>G!b))U((s|G!a)&(!p>Gq)&(!r|G!b))"),
+    (125, 2, 4, b"((r>Gp))U((s|Ga)&(b|Ga)&(r|(qR!q))&(!r|a))"),
+    (125, 4, 2, b"((d&(dUp)))U((a|G!p)&(b|Gc)&(q>G!p))"),
+    (126, 4, 3, b"((!c|Gr))U((q>G!p)&(!b>Ga)&(p|Fd))"),
+    (126, 4, 3, b"((a|(cR!p)))U((d|G!a)&(r|Fq)&(b|Fr)&(!a|d))"),
+    (127, 4, 3, b"((d&(bUc))&(c|Fq))U((a|G!c)&(p>G!r)&(p|d))"),
+    (128, 4, 3, b"((p>Ga)&(!a|Fb))U((r|Gc)&(q|Gd)&(r>c))"),
+    (128, 4, 3, b"((d>Gd)&(!r|Fa))U((!b|Gr)&(q|Gr))"),
+    (128, 3, 4, b"((p|Fq)&(!r>G!b))U((s>Ga)&(c>Ga)&(!r>!c))"),
+    (128, 4, 3, b"((d|Fc)&(c|(qRb)))U((p>G!a)&(!r>G!c))"),
+    (128, 2, 4, b"((!a|F!a)&(p>Gp))U((b|G!q)&(r|Fs))"),
+    (128, 2, 4, b"((!p|Gb)&(!q|F!q))U((a|Gs)&(r|Gs)&(q&b))"),
+    (129, 4, 3, b"((!c|Gd)&(!a>Gp))R((!q|Gp)&(!r>Gb))"),
+    (129, 4, 3, b"((!q|Gp)&(a|(cR!d)))R((!a|G!d)&(b|G!d)&(r>a))"),
+    (129, 3, 4, b"((!p>Gs)&(b|Gr))U((q|F!s)&(c|Ga)&(b>s))"),
+    (129, 4, 3, b"((p&(cUa))&(p&(pUq)))U((d|G!b)&(r|Gc))"),
+    (129, 3, 4, b"((r|Gb)&(!c>G!c))U((q|Gp)&(a|F!b))"),
+    (129, 4, 2, b"((q>Gb)&(d|Gc))R((p>Gb)&(a|G!a))"),
+    (130, 3, 4, b"((s|Fb))U((c|Gq)&(s>Ga)&(p|Gq))"),
+    (130, 3, 4, b"((!c>Gr)&(a|Gq))R((s|Fs)&(!p|G!b)&(b|q)&(b|q))"),
+];

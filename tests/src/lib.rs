@@ -1,0 +1,40 @@
+//! README: an independent solver for the rule engine of 01-scope.md, written from that text alone.
+//! It is slow and plain on purpose; a verified library is tested against it.
+//!
+//! wording    which bytes are marks, for a rule or for a condition
+//! tree       a rule after reading
+//! reader     recursive descent: text to tree, and the limits
+//! viable     Earley's method: the place of a bad text
+//! meaning    LTLf by positions of a list
+//! automaton  vectors, states, breadth-first discovery
+//! game       both games by nested fixpoints over sets of states
+//! tables     tables out of the stages of the fixpoints
+//! longest    longest counts on paths of a graph, cycles included
+//! judge      exact judgement of tables, whoever made them
+//! calls      the calls with their refusals and buffers
+//! listing    the program `airtable`, bytes to bytes
+//! large      rules with about 128 states
+//! chance, makers  seeded random inputs for the comparing programs
+
+pub mod automaton;
+pub mod calls;
+pub mod chance;
+pub mod game;
+pub mod judge;
+pub mod large;
+pub mod listing;
+pub mod longest;
+pub mod makers;
+pub mod meaning;
+pub mod reader;
+pub mod tables;
+pub mod tree;
+pub mod viable;
+pub mod wording;
+
+/// The assumption on the outside: the condition again and again, or always from some step on.
+#[derive(Clone, Copy, Debug, PartialEq, Eq)]
+pub enum Mode {
+    Fair,
+    Stable,
+}

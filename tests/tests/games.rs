@@ -1,0 +1,164 @@
+//! README: the games: the solver's own tables before the judge on random automata, the judge's
+//! teeth on spoiled tables, and the automaton against the meaning of rules.
+
+use solver::automaton::{build, build_wide};
+use solver::chance::Chance;
+use solver::game::{winners, Game};
+use solver::judge::judge;
+use solver::longest::{most_in_a_row, most_marked, Edge};
+use solver::makers::{game_shape, rule_text};
+use solver::meaning::satisfies;
+use solver::reader::read;
+use solver::tables::{build as tables, build_with};
+use solver::wording::Wording;
+use solver::Mode;
+
+/// A random game of at most `most` states.
+fn random_game(chance: &mut Chance, most: usize) -> Game {
+    let (i, o) = (chance.below(3), chance.below(3));
+    let n = chance.between(1, most);
+    let mode = if chance.one_in(2) { Mode::Fair } else { Mode::Stable };
+    let (moves, marks) = game_shape(chance, i, o, n);
+    let mask = chance.next() as u16 & ((1u32 << (1 << i)) - 1) as u16;
+    let goals = marks.iter().map(|&mark| mark != 0).collect();
+    Game { i, o, n, moves: moves.iter().map(|&t| t as usize).collect(), goals, mask, mode }
+}
+
+#[test]
+fn tables_pass_the_judge() {
+    let mut chance = Chance::new(5, 0, 0);
+    let mut won = [0, 0];
+    for _ in 0..3_000 {
+        let game = random_game(&mut chance, 12);
+        let tables = build_with(&game, &mut |serving| serving[chance.below(serving.len())]);
+        let wins = judge(&game, &tables.station, &tables.outside).unwrap();
+        assert_eq!(wins, winners(&game));
+        wins.iter().for_each(|&win| won[win as usize] += 1);
+    }
+    assert!(won[0] > 3_000 && won[1] > 3_000, "{won:?}");
+}
+
+/// Plays by the letter of demand 3, for small games: whether some play from `s` that follows the
+/// station table and enters no goal comes to a bad byte or to n condition steps (in a row).
+fn station_beaten(game: &Game, station: &[u8], s: usize, count: usize, depth: usize) -> bool {
+    if count == game.n {
+        return true;
+    }
+    if depth == 0 {
+        return false;
+    }
+    (0..game.inputs()).any(|x| {
+        let y = station[s * game.inputs() + x] as usize;
+        if y >= game.outputs() {
+            return true;
+        }
+        let t = game.step(s, x, y);
+        let kept = if game.mode == Mode::Fair { count } else { 0 };
+        let count = if game.condition(x) { count + 1 } else { kept };
+        !game.goals[t] && station_beaten(game, station, t, count, depth - 1)
+    })
+}
+
+/// The same for the outside table: a goal entered, a bad byte, or n steps without the condition.
+fn outside_beaten(game: &Game, outside: &[u8], s: usize, count: usize, depth: usize) -> bool {
+    let x = outside[s] as usize;
+    if count == game.n {
+        return true;
+    }
+    if depth == 0 {
+        return false;
+    }
+    if x >= game.inputs() {
+        return true;
+    }
+    let kept = if game.mode == Mode::Stable { count } else { 0 };
+    let count = if game.condition(x) { kept } else { count + 1 };
+    (0..game.outputs()).any(|y| {
+        let t = game.step(s, x, y);
+        game.goals[t] || outside_beaten(game, outside, t, count, depth - 1)
+    })
+}
+
+/// A copy of a table with one of its own bytes changed to another in range.
+fn spoil(chance: &mut Chance, table: &[u8], range: usize) -> Vec<u8> {
+    let mut table = table.to_vec();
+    let own: Vec<usize> = (0..table.len()).filter(|&k| table[k] != 255).collect();
+    if !own.is_empty() {
+        let k = chance.pick(&own);
+        table[k] = chance.below(range) as u8;
+    }
+    table
+}
+
+#[test]
+fn the_judge_agrees_with_plays_one_by_one() {
+    let mut chance = Chance::new(6, 0, 0);
+    let mut bad = 0;
+    for _ in 0..3_000 {
+        let mut game = random_game(&mut chance, 3);
+        game.i = game.i.min(1);
+        game.o = game.o.min(1);
+        game.mask &= (1 << (1 << game.i)) - 1;
+        let good = tables(&game);
+        let station = spoil(&mut chance, &good.station, game.outputs());
+        let outside = spoil(&mut chance, &good.outside, game.inputs());
+        let wins = winners(&game);
+        let depth = game.n * game.n + 1;
+        let beaten = (0..game.n).any(|s| match wins[s] {
+            true => station_beaten(&game, &station, s, 0, depth),
+            false => outside_beaten(&game, &outside, s, 0, depth),
+        });
+        bad += beaten as usize;
+        assert_eq!(judge(&game, &station, &outside).is_err(), beaten, "{game:?} {station:?} {outside:?}");
+    }
+    assert!(bad > 100, "{bad}");
+}
+
+#[test]
+fn hollow_and_blank_tables_fail() {
+    // Chain 0 -> 1 -> 2 (goal) with output 1; output 0 stays. i = 0, o = 1.
+    let game = Game {
+        i: 0,
+        o: 1,
+        n: 3,
+        moves: vec![0, 1, 1, 2, 2, 2],
+        goals: vec![false, false, true],
+        mask: 1,
+        mode: Mode::Fair,
+    };
+    assert_eq!(judge(&game, &[1, 1, 0], &[255; 3]), Ok(vec![true; 3]));
+    assert!(judge(&game, &[1, 0, 0], &[255; 3]).is_err());
+    assert!(judge(&game, &[255; 3], &[255; 3]).is_err());
+    assert!(judge(&game, &[255; 3], &[0; 3]).is_err());
+    assert!(judge(&game, &[1, 1, 2], &[255; 3]).is_err());
+}
+
+#[test]
+fn longest_counts() {
+    let edge = |from, to, marked| Edge { from, to, marked };
+    let path = [edge(0, 1, true), edge(1, 2, false), edge(2, 3, true), edge(2, 2, false)];
+    assert_eq!(most_marked(4, &path), Some(2));
+    assert_eq!(most_in_a_row(4, &path), Some(1));
+    let ring = [edge(0, 1, true), edge(1, 0, false)];
+    assert_eq!(most_marked(2, &ring), None);
+    assert_eq!(most_in_a_row(2, &ring), Some(1));
+    assert_eq!(most_in_a_row(1, &[edge(0, 0, true)]), None);
+}
+
+#[test]
+fn the_automaton_agrees_with_the_meaning() {
+    let mut chance = Chance::new(7, 0, 0);
+    for _ in 0..400 {
+        let (i, o) = (chance.below(3), chance.below(2));
+        let text = rule_text(&mut chance, i, o, 12, 5);
+        let tree = read(&text, Wording::rule(i, o)).unwrap();
+        let Some(automaton) = build(&tree, i, o, 3_000) else { continue };
+        let wide = build_wide(&tree, i, o, 3_000).unwrap();
+        assert_eq!((&wide.moves, &wide.goals), (&automaton.moves, &automaton.goals));
+        for _ in 0..10 {
+            let list: Vec<u8> = (0..chance.below(8)).map(|_| chance.below(1 << (i + o)) as u8).collect();
+            let last = list.iter().fold(0, |s, &letter| automaton.moves[s * automaton.letters + letter as usize]);
+            assert_eq!(automaton.goals[last], satisfies(&tree, i, &list), "{text:?} {list:?}");
+        }
+    }
+}

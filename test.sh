@@ -10,7 +10,7 @@ rt ci | tee "$log" | { grep -v ' passed, ' || true; }
 
 rt staticlib capi
 export CARGO_TARGET_DIR="$PWD/target/cargo" CAPI_LIB_DIR="$PWD/target/staticlib"
-(cd tests && cargo test --offline --quiet)
+(cd tests && cargo test --offline --quiet --tests)
 (cd tests && cargo run --release --offline --quiet --features capi --bin compare)
 
 cc -std=c99 -pedantic -Wall -Wextra -Werror -Iinclude examples/follow.c target/staticlib/libcapi.a -o target/follow

@@ -13,6 +13,7 @@ mod givens;
 mod listed;
 mod plays;
 mod rules;
+mod sources;
 mod trials;
 
 use common::Tally;
@@ -34,7 +35,9 @@ enum Run {
 
 use Run::*;
 
-const KINDS: [Kind; 17] = [
+const KINDS: [Kind; 19] = [
+    Kind { name: "readings", count: sources::READINGS_COUNT, run: Listed(sources::reading) },
+    Kind { name: "published", count: sources::PUBLISHED_COUNT, run: Listed(sources::published) },
     Kind { name: "trial-short", count: listed::SHORT_TEXTS, run: Listed(listed::short_text) },
     Kind { name: "trial-bytes", count: listed::BYTES_IN_PLACES, run: Listed(listed::byte_in_place) },
     Kind { name: "trial-lengths", count: 301 * 40, run: Listed(listed::text_of_length) },

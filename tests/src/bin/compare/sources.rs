@@ -1,0 +1,102 @@
+//! README: what the sources state, run through the library: the readings of small rules of 01 and the
+//! rows of published.tsv. A row that is called valid, an equivalence most often, is tried on lists.
+
+use crate::common::*;
+use crate::rules::Case;
+use crate::trials::run;
+use solver::calls::{try_rule, Verdict};
+use solver::chance::Chance;
+use solver::Mode;
+
+/// The readings with i = o = 1: mode, condition, rule, verdict and n, or the refusal (none where the verdict is open).
+const READINGS: [(Mode, &str, &str, Option<(bool, usize)>); 14] = [
+    (Mode::Fair, "1", "Fp", Some((true, 3))),
+    (Mode::Fair, "1", "Fa", Some((false, 3))),
+    (Mode::Fair, "a", "Fa", Some((true, 3))),
+    (Mode::Fair, "0", "Fa", Some((true, 3))),
+    (Mode::Stable, "a", "Ga", Some((false, 3))),
+    (Mode::Fair, "a", "F(a&Xa)", Some((false, 4))),
+    (Mode::Stable, "a", "F(a&Xa)", Some((true, 4))),
+    (Mode::Fair, "1", "Xa", Some((false, 4))),
+    (Mode::Fair, "1", "Na", Some((true, 4))),
+    (Mode::Fair, "1", "a&p|!a&!p", Some((true, 3))),
+    (Mode::Fair, "a", "pUa", Some((true, 4))),
+    (Mode::Fair, "1", "XXXXXXa", None),
+    (Mode::Fair, "1", "", None),
+    (Mode::Fair, "1", "XXXXXa", None),
+];
+
+/// The count of readings, the two with other counts of inputs and outputs included.
+pub const READINGS_COUNT: u64 = 15;
+
+/// The count of published rows.
+pub const PUBLISHED_COUNT: u64 = 34;
+
+/// The published rows, field by field.
+fn rows() -> Vec<Vec<&'static str>> {
+    include_str!("../../../published.tsv").lines().skip(1).map(|line| line.split('\t').collect()).collect()
+}
+
+/// One rule compared, and the verdict held against what is stated.
+fn stated(
+    chance: &mut Chance,
+    (i, o): (usize, usize),
+    mode: Mode,
+    condition: &str,
+    rule: &str,
+    wanted: Option<(bool, usize)>,
+    tally: &mut Tally,
+) -> Result<Option<Verdict>, String> {
+    let mut case = Case::new(chance, (i, o), rule.into(), condition.into(), enough);
+    case.mode = mode;
+    let verdict = case.compare(1, tally).map_err(|what| case.print(what))?;
+    match (wanted, verdict) {
+        (Some((can, n)), Some(told)) if told.can == can && told.n == n => Ok(verdict),
+        (None, _) => Ok(verdict),
+        _ => Err(case.print(format!("the source states {wanted:?}"))),
+    }
+}
+
+/// The k-th reading of 01.
+pub fn reading(case: u64, chance: &mut Chance, tally: &mut Tally) -> Result<(), String> {
+    let Some(&(mode, condition, rule, wanted)) = READINGS.get(case as usize) else {
+        let wide = "F((a|Gp)&(b|Gq)&(c|Gr)&(d|Gs))";
+        let verdict = stated(chance, (4, 4), Mode::Fair, "1", wide, None, tally)?;
+        return if verdict.is_none() { Ok(()) } else { Err("the rule with 169 states was served".into()) };
+    };
+    let verdict = stated(chance, (1, 1), mode, condition, rule, wanted, tally)?;
+    let served = rule != "XXXXXXa" && !rule.is_empty();
+    if verdict.is_some() == served { Ok(()) } else { Err(format!("{rule:?}: served {}", !served)) }
+}
+
+/// The k-th published row.
+pub fn published(case: u64, chance: &mut Chance, tally: &mut Tally) -> Result<(), String> {
+    let rows = rows();
+    assert_eq!(rows.len() as u64, PUBLISHED_COUNT);
+    let row = &rows[case as usize % rows.len()];
+    let number = |k: usize| row[k].parse::<usize>().unwrap();
+    let mode = if row[3] == "fair" { Mode::Fair } else { Mode::Stable };
+    let size = (number(1), number(2));
+    let fits = number(9) <= 5 && number(10) <= 64 && number(8) <= 128;
+    match row[7] {
+        "can" | "cannot" if fits => {
+            stated(chance, size, mode, row[4], row[5], Some((row[7] == "can", number(8))), tally).map(|_| ())
+        }
+        "can" | "cannot" => stated(chance, size, mode, row[4], row[5], None, tally).map(|_| ()),
+        answer => valid(size, row[5], answer == "valid", tally),
+    }
+}
+
+/// Tries a rule on every list of one to three letters: all satisfy it if it is valid, and some list does not if it isn't.
+fn valid((i, o): (usize, usize), rule: &str, valid: bool, tally: &mut Tally) -> Result<(), String> {
+    let letters = 1usize << (i + o);
+    let mut all = true;
+    for length in 1..4u32 {
+        for k in 0..letters.pow(length).min(20_000) {
+            let list: Vec<u8> = (0..length).map(|at| (k / letters.pow(at) % letters) as u8).collect();
+            run(i, o, rule.as_bytes(), &list, tally)?;
+            all &= try_rule(i, o, rule.as_bytes(), &list) == Ok(true);
+        }
+    }
+    if all == valid { Ok(()) } else { Err(format!("{rule}: the source says valid {valid}")) }
+}

@@ -1,17 +1,18 @@
 #!/usr/bin/env bash
 # The test run: proves every crate from nothing, tries the must-fail edits and runs the programs; then the independent
-# solver's own tests, the comparison of the C interface with it, and the example in C.
+# solver's own tests, the comparison of the C interface and of the program airtable with it, and the example in C.
 # Its last line is rt ci's 'N passed, 0 failed', printed only when everything else passed too.
 set -euo pipefail
 cd "$(dirname "$0")"
 log=$(mktemp)
 trap 'rm -f "$log"' EXIT
-rt ci | tee "$log" | { grep -v ' passed, ' || true; }
+rt ci | tee "$log" | { grep --line-buffered -v ' passed, ' || true; }
 
 rt staticlib capi
 export CARGO_TARGET_DIR="$PWD/target/cargo" CAPI_LIB_DIR="$PWD/target/staticlib"
 (cd tests && cargo test --offline --quiet --tests)
 (cd tests && cargo run --release --offline --quiet --features capi --bin compare)
+(cd tests && cargo run --release --offline --quiet --bin drive -- ../target/bin/airtable)
 
 cc -std=c99 -pedantic -Wall -Wextra -Werror -Iinclude examples/follow.c target/staticlib/libcapi.a -o target/follow
 target/follow < examples/follow.input | diff examples/follow.expected -

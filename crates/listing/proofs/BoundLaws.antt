@@ -1,0 +1,138 @@
+-- What the program prints has at most 8,192 bytes, so that an output of that size holds the whole of it.
+-- Assumes nothing.
+use Prim.Native.Nat.{ℕ, _^_, _≤_, _<_}
+use mathlib.Core.Path.{_≡_, refl, sym, ap, subst, _∙_}
+use mathlib.Core.Bool.{Bool, true, false, cond, _||_}
+use mathlib.Core.Logic.{_⊎_, ⊎-elim}
+use mathlib.Core.List.{List}
+use native.Mathlib.Nat.{min-eq-left}
+use native.Mathlib.Omega.{arith}
+use lib.Dec.{eqb, ltb}
+use lib.ListN.{length, take, drop}
+use lib.Pow.{pow-mono}
+use lib.Seq.{take-all, take-append-seam}
+use borrow.Author.Tests.{eqb-true, eqb-false, ltb-false}
+use Rattle.reader.specs.declared.reading.Reading.{Reading}
+use Rattle.reader.specs.declared.reading.Reading.the-variants.{Good, Bad, TooManyNodes, TooManyOperators}
+use Rattle.reader.specs.declared.refusal.Refusal.{Refusal}
+use Rattle.reader.specs.declared.refusal.Refusal.the-variants.{Nothing, Alphabet, TextLength, Buffer, RuleText, RuleNodes, RuleOperators, ConditionText, ConditionNodes, StateCount, GivenCount, Move, State, Value}
+use Rattle.reader.specs.declared.marks.Kind.{Kind}
+use Rattle.reader.specs.Reading.{ReadingOf}
+use Rattle.reader.specs.Refusal.{numberOf, placeOf, afterRule, afterCondition}
+use Rattle.reader.proofs.BoolLaws.{on, or-left, or-right}
+use Rattle.automaton.specs.Alphabet.{badAlphabet, tooLong}
+use Rattle.automaton.specs.Limits.{stateLimit}
+use Rattle.game.specs.declared.answer.Answer.{Answer}
+use Rattle.game.specs.declared.answer.Answer.the-variants.{Refused}
+use Rattle.game.specs.Answer.{verdictOf}
+use Rattle.game.specs.Rule.{Buffers, shortBuffers, ruleRefusal, Served, RuleSolved}
+use Rattle.listing.specs.Listing.{listing, stateLine, canWord, cannotWord}
+use Rattle.listing.specs.Promise.{Prints, Listed}
+use Rattle.listing.proofs.LengthLaws.{system-length, environment-length, line-length, verdict-length, refusal-length}
+use Rattle.listing.proofs.PromiseLaws.{no-number, served-states}
+
+number-small : (x : Refusal) → numberOf x ≤ 14
+number-small Nothing = omega arith
+number-small Alphabet = omega arith
+number-small TextLength = omega arith
+number-small Buffer = omega arith
+number-small (RuleText k) = omega arith
+number-small RuleNodes = omega arith
+number-small RuleOperators = omega arith
+number-small (ConditionText k) = omega arith
+number-small ConditionNodes = omega arith
+number-small StateCount = omega arith
+number-small GivenCount = omega arith
+number-small (Move k) = omega arith
+number-small State = omega arith
+number-small (Value k) = omega arith
+
+-- the place of a bad text that is not too long
+place-within : (i : ℕ) (kind : ℕ → Kind) (text : List ℕ) (ρ : Reading) → ReadingOf i kind text ρ → tooLong text ≡ false → (k : ℕ) → ρ ≡ Bad k → k ≤ 255
+unfolding ReadingOf
+place-within i kind text ρ h l k e =
+    let p : ReadingOf i kind text (Bad k) = subst (λ (x : Reading). ReadingOf i kind text x) e h in
+    let b : length text ≤ 255 = ltb-false 255 (length text) l in
+    omega (arith, p .within)
+
+place-small : (a b c d : Bool) (ρ κ : Reading) → (b ≡ false → (k : ℕ) → ρ ≡ Bad k → k ≤ 255) → (b ≡ false → (k : ℕ) → κ ≡ Bad k → k ≤ 255)
+    → placeOf (cond a Alphabet (cond b TextLength (cond c Buffer (afterRule ρ (afterCondition κ (cond d StateCount Nothing)))))) ≤ 255
+place-small true b c d ρ κ f g = omega arith
+place-small false true c d ρ κ f g = omega arith
+place-small false false true d ρ κ f g = omega arith
+place-small false false false true (Good n) (Good m) f g = omega arith
+place-small false false false false (Good n) (Good m) f g = omega arith
+place-small false false false d (Good n) (Bad k) f g = g refl k refl
+place-small false false false d (Good n) TooManyNodes f g = omega arith
+place-small false false false d (Good n) TooManyOperators f g = omega arith
+place-small false false false d (Bad k) κ f g = f refl k refl
+place-small false false false d TooManyNodes κ f g = omega arith
+place-small false false false d TooManyOperators κ f g = omega arith
+
+alphabet-served : (a : Bool) (x : Refusal) → numberOf (cond a Alphabet x) ≡ 0 → a ≡ false
+alphabet-served true x e = absurd (omega arith)
+alphabet-served false x e = refl
+
+module _ {fair : Bool} {i o : ℕ} {rule condition : List ℕ} {old new : Buffers} {r : Answer} (m : RuleSolved fair i o rule condition old new r) where
+  refusal-place : placeOf (m .refusal) ≤ 255
+  unfolding ruleRefusal
+  refusal-place =
+      subst (λ (x : Refusal). placeOf x ≤ 255) (sym (m .first))
+      (place-small (badAlphabet i o) (tooLong rule || tooLong condition) (shortBuffers i o old) (ltb stateLimit (m .states)) (m .reading) (m .condition-reading)
+      (λ b. place-within i _ rule (m .reading) (m .read) (or-left (tooLong rule) (tooLong condition) b))
+      (λ b. place-within i _ condition (m .condition-reading) (m .condition-read) (or-right (tooLong rule) (tooLong condition) b)))
+
+  module _ (z : numberOf (m .refusal) ≡ 0) where
+    small : badAlphabet i o ≡ false
+    unfolding ruleRefusal
+    small = alphabet-served (badAlphabet i o) _ (ap numberOf (sym (m .first)) ∙ z)
+
+    few-inputs : 2 ^ i ≤ 16
+    few-inputs = pow-mono {j = 4} (ltb-false 4 i (or-left (ltb 4 i) (ltb 4 o) small))
+
+    few-outputs : 2 ^ o ≤ 16
+    few-outputs = pow-mono {j = 4} (ltb-false 4 o (or-right (ltb 4 i) (ltb 4 o) small))
+
+    few-states : m .states ≤ 128
+    few-states = served-states i o rule condition old (m .reading) (m .condition-reading) (m .states) (ap numberOf (sym (m .first)) ∙ z)
+
+    served-line : {can : Bool} → Served fair i o rule condition old new (m .states) can → (s : ℕ) → s < m .states → length (stateLine (2 ^ i) (new .accepting) (new .system) (new .environment) s) ≤ 56
+    served-line v s h =
+        let p = few-inputs in
+        let q = few-outputs in
+        let l = few-states in
+        line-length (2 ^ i) (new .accepting) (new .system) (new .environment) s (omega arith)
+        (⊎-elim
+        (λ w. system-length (2 ^ i) p (new .system) (new .environment) s (w .other) (λ x g. let b = w .bytes x g in omega arith))
+        (λ w. environment-length (2 ^ i) p (new .system) (new .environment) s (let b = w .byte in omega arith))
+        (v .tables .won s h))
+
+    served-length : (can : Bool) → Served fair i o rule condition old new (m .states) can → length (listing i new (verdictOf can (m .states))) ≤ 8192
+    served-length true v = verdict-length (2 ^ i) (new .accepting) (new .system) (new .environment) canWord (m .states) (omega arith) few-states (served-line v)
+    served-length false v = verdict-length (2 ^ i) (new .accepting) (new .system) (new .environment) cannotWord (m .states) (omega arith) few-states (served-line v)
+
+  pub listing-length : length (listing i new r) ≤ 8192
+  listing-length =
+      on (eqb (numberOf (m .refusal)) 0)
+      (λ t.
+      let z : numberOf (m .refusal) ≡ 0 = eqb-true (numberOf (m .refusal)) 0 t in
+      let v = m .served (no-number (m .refusal) z) in
+      subst (λ (x : Answer). length (listing i new x) ≤ 8192) (sym (v .1)) (served-length z (v .0) (v .2)))
+      (λ f.
+      let e : r ≡ Refused (m .refusal) = m .refused (λ n. eqb-false (numberOf (m .refusal)) 0 f (ap numberOf n)) .0 in
+      subst (λ (x : Answer). length (listing i new x) ≤ 8192) (sym e) (refusal-length (numberOf (m .refusal)) (placeOf (m .refusal)) (number-small (m .refusal)) refusal-place))
+
+-- what the program prints has at most 8,192 bytes
+pub prints-length : {input text : List ℕ} → Prints input text → length text ≤ 8192
+prints-length {input} {text} p =
+    ⊎-elim
+    (λ q. subst (λ (t : List ℕ). length t ≤ 8192) (sym (q .answers .listed)) (listing-length (q .answers .solved)))
+    (λ q. subst (λ (t : List ℕ). length t ≤ 8192) (sym (q .refused)) (refusal-length 14 0 (omega arith) (omega arith)))
+    p
+
+-- an output of that size holds the whole text, and nothing else among its first r bytes
+pub listed-whole : {input output output′ : List ℕ} {r : ℕ} (l : Listed input output output′ r) → 8192 ≤ length output → (r ≡ length (l .text)) × (take r output′ ≡ l .text)
+listed-whole {input} {output} {output′} {r} l h =
+    let b : length (l .text) ≤ length output = let g = prints-length (l .prints) in omega arith in
+    let e : r ≡ length (l .text) = l .count ∙ min-eq-left b in
+    (e, rw (e, l .written, take-all (length output) (l .text) b) (take-append-seam (l .text) (drop (length (l .text)) output)))

@@ -1,0 +1,10 @@
+pub mod WritingLaws
+pub mod DecimalLaws
+pub mod RenderingLaws
+pub mod ScanLaws
+pub mod RequestLaws
+pub mod FillingLaws
+pub mod PromiseLaws
+pub mod LengthLaws
+pub mod BoundLaws
+pub mod ExampleLaws

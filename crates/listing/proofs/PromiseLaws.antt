@@ -1,0 +1,136 @@
+-- The promise from its parts (specs/Promise.antt): a refusal by 14, and the listing of the rule call's answer; an answer has at most 128 states.
+-- Assumes nothing.
+use Prim.Native.Nat.{ℕ, _+_, _-_, _≤_, min}
+use mathlib.Core.Path.{_≡_, refl, sym, ap, subst, _∙_}
+use mathlib.Core.Bool.{Bool, true, false, cond, _||_}
+use mathlib.Core.Logic.{_⊎_}
+use mathlib.Core.List.{List, _++_}
+use native.Mathlib.Omega.{arith}
+use lib.Dec.{eqb, ltb}
+use lib.ListN.{length, take, drop}
+use borrow.Author.Tests.{eqb-true, eqb-false, ltb-false}
+use Rattle.reader.specs.declared.reading.Reading.{Reading}
+use Rattle.reader.specs.declared.reading.Reading.the-variants.{Good, Bad, TooManyNodes, TooManyOperators}
+use Rattle.reader.specs.declared.refusal.Refusal.{Refusal}
+use Rattle.reader.specs.declared.refusal.Refusal.the-variants.{Nothing, Alphabet, TextLength, Buffer, RuleText, RuleNodes, RuleOperators, ConditionText, ConditionNodes, StateCount, GivenCount, Move, State, Value}
+use Rattle.reader.specs.Refusal.{numberOf, afterRule, afterCondition}
+use Rattle.reader.proofs.BoolLaws.{on, clash}
+use Rattle.automaton.specs.Alphabet.{badAlphabet, tooLong}
+use Rattle.automaton.specs.Limits.{stateLimit}
+use Rattle.game.specs.declared.answer.Answer.{Answer}
+use Rattle.game.specs.declared.answer.Answer.the-variants.{Can, Cannot, Refused}
+use Rattle.game.specs.Answer.{verdictOf}
+use Rattle.game.specs.Rule.{Buffers, buffers, shortBuffers, ruleRefusal, RuleSolved}
+use Rattle.listing.specs.Listing.{listing, malformed}
+use Rattle.listing.specs.Promise.{Lent, Listed}
+use Rattle.listing.specs.Rendering.{statesOf, listingOf}
+use Rattle.listing.specs.Scan.{isRequest, isFairLine, lineEnd, conditionStart, conditionPart, rulePart, digitAt}
+use Rattle.listing.specs.Writing.{written, Writes}
+use Rattle.listing.proofs.FillingLaws.{written-filled, position-least}
+use Rattle.listing.proofs.RequestLaws.{request-asks, asks-request}
+
+-- only no refusal has the number 0
+pub no-number : (x : Refusal) → numberOf x ≡ 0 → x ≡ Nothing
+no-number Nothing e = refl
+no-number Alphabet e = absurd (omega arith)
+no-number TextLength e = absurd (omega arith)
+no-number Buffer e = absurd (omega arith)
+no-number (RuleText k) e = absurd (omega arith)
+no-number RuleNodes e = absurd (omega arith)
+no-number RuleOperators e = absurd (omega arith)
+no-number (ConditionText k) e = absurd (omega arith)
+no-number ConditionNodes e = absurd (omega arith)
+no-number StateCount e = absurd (omega arith)
+no-number GivenCount e = absurd (omega arith)
+no-number (Move k) e = absurd (omega arith)
+no-number State e = absurd (omega arith)
+no-number (Value k) e = absurd (omega arith)
+
+-- too many states are refused, whatever comes before
+over-refused : (a b c : Bool) (ρ κ : Reading) → numberOf (cond a Alphabet (cond b TextLength (cond c Buffer (afterRule ρ (afterCondition κ StateCount))))) ≡ 0 → ⊥
+over-refused true b c ρ κ e = omega arith
+over-refused false true c ρ κ e = omega arith
+over-refused false false true ρ κ e = omega arith
+over-refused false false false (Good n) (Good m) e = omega arith
+over-refused false false false (Good n) (Bad m) e = omega arith
+over-refused false false false (Good n) TooManyNodes e = omega arith
+over-refused false false false (Good n) TooManyOperators e = omega arith
+over-refused false false false (Bad k) κ e = omega arith
+over-refused false false false TooManyNodes κ e = omega arith
+over-refused false false false TooManyOperators κ e = omega arith
+
+pub served-states : (i o : ℕ) (rule condition : List ℕ) (old : Buffers) (ρ κ : Reading) (n : ℕ) → numberOf (ruleRefusal i o rule condition old ρ κ n) ≡ 0 → n ≤ 128
+unfolding ruleRefusal
+served-states i o rule condition old ρ κ n e =
+    on (ltb stateLimit n)
+    (λ t. absurd (over-refused (badAlphabet i o) (tooLong rule || tooLong condition) (shortBuffers i o old) ρ κ (rw t at e)))
+    (λ f. ltb-false stateLimit n f)
+
+verdict-states : (can : Bool) (n : ℕ) → statesOf (verdictOf can n) ≡ n
+verdict-states true n = refl
+verdict-states false n = refl
+
+-- an answer has at most 128 states
+pub solved-states : {fair : Bool} {i o : ℕ} {rule condition : List ℕ} {old new : Buffers} {r : Answer} → RuleSolved fair i o rule condition old new r → statesOf r ≤ 128
+solved-states {fair} {i} {o} {rule} {condition} {old} {new} {r} m =
+    on (eqb (numberOf (m .refusal)) 0)
+    (λ t.
+    let z : numberOf (m .refusal) ≡ 0 = eqb-true (numberOf (m .refusal)) 0 t in
+    let v = m .served (no-number (m .refusal) z) in
+    let e : statesOf r ≡ m .states = ap statesOf (v .1) ∙ verdict-states (v .0) (m .states) in
+    let h = served-states i o rule condition old (m .reading) (m .condition-reading) (m .states) (ap numberOf (sym (m .first)) ∙ z) in
+    subst (λ (k : ℕ). k ≤ 128) (sym e) h)
+    (λ f.
+    let e : statesOf r ≡ 0 = ap statesOf (m .refused (λ n. eqb-false (numberOf (m .refusal)) 0 f (ap numberOf n)) .0) in
+    subst (λ (k : ℕ). k ≤ 128) (sym e) (omega arith))
+
+-- the transitions are not listed
+listing-same : (i : ℕ) (t a σ τ : List ℕ) (r : Answer) → listingOf i a σ τ r ≡ listing i (buffers t a σ τ) r
+listing-same i t a σ τ (Can n) = refl
+listing-same i t a σ τ (Cannot n) = refl
+listing-same i t a σ τ (Refused x) = refl
+
+-- what is written from the output's beginning
+text-written : (out text out′ : List ℕ) (r : ℕ) → Writes out 0 text out′ r → (out′ ≡ take (length out) text ++ drop (length text) out) × (r ≡ min (length text) (length out))
+text-written out text out′ r w =
+    let n : length out - 0 ≡ length out = omega arith in
+    let m : 0 + length text ≡ length text = omega arith in
+    (w .output ∙ written-filled text out 0 (omega arith) ∙ (rw (n, m) refl), w .end ∙ position-least text (length out) 0 (omega arith) ∙ (rw m refl))
+
+pub listed-refused : (input out out′ : List ℕ) (r : ℕ) → isRequest input ≡ false → Writes out 0 malformed out′ r → Listed input out out′ r
+listed-refused input out out′ r e w =
+    let t = text-written out malformed out′ r w in
+    record {
+      text = malformed;
+      prints = _⊎_.inr (record { none = λ i o f c ρ q. clash (isRequest input) (asks-request input i o f c ρ q) e; refused = refl });
+      written = t .0;
+      count = t .1;
+    }
+
+module _ (s : List ℕ) (ok : isRequest s ≡ true) where
+  pub listed-answer : (old : Buffers) (t a σ τ : List ℕ) (x : Answer) (out out′ : List ℕ) (r : ℕ) → Lent old
+      → RuleSolved (isFairLine s) (digitAt s 0) (digitAt s 2) (rulePart s (conditionStart s)) (conditionPart s (conditionStart s)) old (buffers t a σ τ) x
+      → Writes out 0 (listingOf (digitAt s 0) a σ τ x) out′ r → Listed s out out′ r
+  listed-answer old t a σ τ x out out′ r l m w =
+      let text : List ℕ = listingOf (digitAt s 0) a σ τ x in
+      let v = text-written out text out′ r w in
+      record {
+        text = text;
+        prints = _⊎_.inl (record {
+          i = digitAt s 0;
+          o = digitAt s 2;
+          fair = isFairLine s;
+          condition = conditionPart s (conditionStart s);
+          rule = rulePart s (conditionStart s);
+          asks = request-asks s ok;
+          answers = record { old = old; lent = l; new = buffers t a σ τ; answer = x; solved = m; listed = listing-same (digitAt s 0) t a σ τ x };
+        });
+        written = v .0;
+        count = v .1;
+      }
+
+-- the parts that are handed to the rule call are the request's
+pub asked-parts : (s : List ℕ) (start end to i o : ℕ) (f : Bool) (old new : Buffers) (x : Answer) → start ≡ conditionStart s → end ≡ lineEnd s start → to ≡ lineEnd s (end + 1)
+    → i ≡ digitAt s 0 → o ≡ digitAt s 2 → f ≡ isFairLine s → RuleSolved f i o (take (to - (end + 1)) (drop (end + 1) s)) (take (end - start) (drop start s)) old new x
+    → RuleSolved (isFairLine s) (digitAt s 0) (digitAt s 2) (rulePart s (conditionStart s)) (conditionPart s (conditionStart s)) old new x
+asked-parts s start end to i o f old new x a b c d e g m = rw (← a, ← b, ← c, ← d, ← e, ← g) m

@@ -1,0 +1,7 @@
+pub mod Decimal
+pub mod Input
+pub mod Listing
+pub mod Promise
+pub mod Writing
+pub mod Scan
+pub mod Rendering

@@ -1,0 +1,55 @@
+-- The promise of the listing call: what the program prints for an input, and what is written of it. It rests on the rule call's promise (01: "the program .. rest[s] on
+-- the promise of the one below"): the listing is that of an answer and of four buffers for which the rule call's promise holds.
+-- Assumes nothing.
+use Prim.Native.Nat.{ℕ, min}
+use mathlib.Core.Path.{_≡_}
+use mathlib.Core.Bool.{Bool}
+use mathlib.Core.List.{List, _++_}
+use mathlib.Core.Logic.{_⊎_}
+use lib.ListN.{length, take, drop}
+use Rattle.game.specs.declared.answer.Answer.{Answer}
+use Rattle.game.specs.Rule.{Buffers, RuleSolved}
+use Rattle.listing.specs.Input.{Asks}
+use Rattle.listing.specs.Listing.{listing, malformed}
+
+-- buffers of the size that four inputs and four outputs need
+pub record Lent (lent : Buffers) : Type 0 where
+  pub transitions : length (lent .transitions) ≡ 32768
+  pub accepting : length (lent .accepting) ≡ 128
+  pub system : length (lent .system) ≡ 2048
+  pub environment : length (lent .environment) ≡ 128
+
+-- the text is the listing of what the rule call answers on a request
+pub record Answers (i o : ℕ) (fair : Bool) (condition rule text : List ℕ) : Type 0 where
+  pub old : Buffers
+  pub lent : Lent old
+  pub new : Buffers
+  pub answer : Answer
+  pub solved : RuleSolved fair i o rule condition old new answer
+  pub listed : text ≡ listing i new answer
+
+-- the input is a request, and the text answers it
+pub record Request (input text : List ℕ) : Type 0 where
+  pub i : ℕ
+  pub o : ℕ
+  pub fair : Bool
+  pub condition : List ℕ
+  pub rule : List ℕ
+  pub asks : Asks input i o fair condition rule
+  pub answers : Answers i o fair condition rule text
+
+-- the input is no request, and the text is refusal 14
+pub record NoRequest (input text : List ℕ) : Type 0 where
+  pub none : (i o : ℕ) (fair : Bool) (condition rule : List ℕ) → Asks input i o fair condition rule → ⊥
+  pub refused : text ≡ malformed
+
+-- what the program prints for an input
+abbrev pub Prints : List ℕ → List ℕ → Type 0
+Prints input text = Request input text ⊎ NoRequest input text
+
+-- the whole promise: the output begins with the text as far as it fits, the rest of it is as it was, and r says how much of it is the text's
+pub record Listed (input output output′ : List ℕ) (r : ℕ) : Type 0 where
+  pub text : List ℕ
+  pub prints : Prints input text
+  pub written : output′ ≡ take (length output) text ++ drop (length text) output
+  pub count : r ≡ min (length text) (length output)

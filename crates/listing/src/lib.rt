@@ -1,0 +1,5 @@
+// What the program prints for its input.
+mod input;
+pub mod list;
+mod render;
+mod write;

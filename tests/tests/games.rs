@@ -4,7 +4,7 @@
 use solver::automaton::{build, build_wide};
 use solver::chance::Chance;
 use solver::game::{winners, Game};
-use solver::judge::judge;
+use solver::judge::{frame, judge};
 use solver::longest::{most_in_a_row, most_marked, Edge};
 use solver::makers::{game_shape, rule_text};
 use solver::meaning::satisfies;
@@ -143,6 +143,16 @@ fn longest_counts() {
     assert_eq!(most_marked(2, &ring), None);
     assert_eq!(most_in_a_row(2, &ring), Some(1));
     assert_eq!(most_in_a_row(1, &[edge(0, 0, true)]), None);
+    let round = [edge(0, 3, false), edge(3, 2, false), edge(2, 1, false), edge(1, 0, true)];
+    assert_eq!(most_marked(4, &round), None);
+}
+
+#[test]
+fn bytes_beyond_the_share_are_watched() {
+    let before = [7, 7, 7, 7, 7];
+    assert!(frame("table", &[1, 255, 255, 7, 7], &before, 1, 3, 255).is_ok());
+    assert!(frame("table", &[1, 255, 255, 7, 8], &before, 1, 3, 255).is_err());
+    assert!(frame("table", &[1, 255, 7, 7, 7], &before, 1, 3, 255).is_err());
 }
 
 #[test]

@@ -230,7 +230,7 @@ pub fn large(chance: &mut Chance, tally: &mut Tally) -> Result<(), String> {
             (i, o, good_rule(chance, i, o, 34, 5))
         }
     };
-    let condition = good_condition(chance, i);
+    let condition = if chance.one_in(4) { any_condition(chance, i) } else { good_condition(chance, i) };
     let mut case = Case::new(chance, (i, o), rule, condition, enough);
     let any = chance.byte();
     let verdict = case.compare(any, tally).map_err(|what| case.print(what))?;

@@ -66,7 +66,11 @@ pub fn reading(case: u64, chance: &mut Chance, tally: &mut Tally) -> Result<(), 
     };
     let verdict = stated(chance, (1, 1), mode, condition, rule, wanted, tally)?;
     let served = rule != "XXXXXXa" && !rule.is_empty();
-    if verdict.is_some() == served { Ok(()) } else { Err(format!("{rule:?}: served {}", !served)) }
+    if verdict.is_some() == served {
+        Ok(())
+    } else {
+        Err(format!("{rule:?}: served {}", !served))
+    }
 }
 
 /// The k-th published row.
@@ -98,5 +102,9 @@ fn valid((i, o): (usize, usize), rule: &str, valid: bool, tally: &mut Tally) -> 
             all &= try_rule(i, o, rule.as_bytes(), &list) == Ok(true);
         }
     }
-    if all == valid { Ok(()) } else { Err(format!("{rule}: the source says valid {valid}")) }
+    if all == valid {
+        Ok(())
+    } else {
+        Err(format!("{rule}: the source says valid {valid}"))
+    }
 }

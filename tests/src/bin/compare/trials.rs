@@ -9,10 +9,12 @@ use solver::makers::{any_text, rule_text, with_blanks};
 /// A list of letters, mostly in range.
 pub fn list(chance: &mut Chance, i: usize, o: usize) -> Vec<u8> {
     let letters = 1usize << (i.min(4) + o.min(4));
-    let length = if chance.one_in(200) { 150 } else { chance.pick(&[0, 1, 2, 3, 5, 8, 40]) };
+    let length = if chance.one_in(200) { chance.pick(&[150, 700]) } else { chance.pick(&[0, 1, 2, 3, 5, 8, 40]) };
     let length = chance.between(0, length);
     let wild = chance.one_in(6);
-    (0..length).map(|_| if wild && chance.one_in(8) { chance.byte() } else { chance.below(letters) as u8 }).collect()
+    let rarity = if length > 255 { 400 } else { 8 };
+    let letter = |_| if wild && chance.one_in(rarity) { chance.byte() } else { chance.below(letters) as u8 };
+    (0..length).map(letter).collect()
 }
 
 /// One trial compared; where something differs the input is printed.

@@ -22,6 +22,7 @@ pub(crate) fn has_condition(mask: u16, x: usize) -> bool
     (mask >> x) % 2 == 1
 }
 
+// A byte as a number.
 pub(crate) fn wide(b: u8) -> usize
     ensures { λ r. ⌜ r ≡ b ⌝ }
 {

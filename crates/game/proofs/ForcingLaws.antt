@@ -9,7 +9,7 @@ use Rattle.game.specs.Rank.{Valid, Safe, Forces}
 use Rattle.game.specs.Solver.{Favorable}
 use Rattle.game.proofs.IndexLaws.{at-facts}
 
-safe-map : (G : Arena) (player : Bool) (t : ℕ) {D E : Type 0} → (D → E) → Safe G player t D → Safe G player t E
+pub safe-map : (G : Arena) (player : Bool) (t : ℕ) {D E : Type 0} → (D → E) → Safe G player t D → Safe G player t E
 safe-map G true t f (_⊎_.inl g) = _⊎_.inl g
 safe-map G true t f (_⊎_.inr d) = _⊎_.inr (f d)
 safe-map G false t f (g, d) = (g, f d)

@@ -14,13 +14,8 @@ use Rattle.game.specs.Arena.{Arena, next, goal, holds, lacks}
 use Rattle.game.specs.Rank.{judged, Safe, Falls, Ranked}
 use Rattle.game.specs.Tables.{noMove}
 use Rattle.game.specs.Bytes.{limitOf, Below, IsBelow, GoodOutput, SomeOutput, EveryOutput, AllowedInput, SystemByte, EnvironmentByte}
+use Rattle.game.proofs.ForcingLaws.{safe-map}
 use Rattle.reader.proofs.BoolLaws.{on, clash}
-
--- what the player asks of the entered state, in a weaker form
-pub safe-map : (G : Arena) (player : Bool) (t : ℕ) {D E : Type 0} → (D → E) → Safe G player t D → Safe G player t E
-safe-map G true t f (_⊎_.inl g) = _⊎_.inl g
-safe-map G true t f (_⊎_.inr d) = _⊎_.inr (f d)
-safe-map G false t f (g, d) = (g, f d)
 
 -- what is known of the state t that the code entered, said of the next state
 module _ (G : Arena) (s x y t : ℕ) (is : t ≡ next G s x y) where

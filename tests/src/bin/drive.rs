@@ -1,8 +1,8 @@
 //! README: runs the built program `airtable` over seeded inputs on its standard input and compares
 //! its standard output with the solver's listing. Where table bytes are free the listing is taken
-//! apart and its rows are judged.
+//! apart and its rows are judged. Files named on the command line come first.
 //!
-//!   drive PATH_TO_AIRTABLE [--seed N] [--times K]
+//!   drive PATH_TO_AIRTABLE [--seed N] [--times K] [FILE.rule ..]
 
 use solver::automaton::build;
 use solver::calls::{game_of, Verdict};
@@ -202,24 +202,37 @@ fn option(word: &str, default: u64) -> u64 {
     at.map_or(default, |k| words[k + 1].parse().expect("a number"))
 }
 
+/// The files of the command line, by name.
+fn files() -> Vec<(String, Vec<u8>)> {
+    let named = std::env::args().skip(2).filter(|word| word.ends_with(".rule"));
+    named.map(|name| (name.clone(), std::fs::read(&name).unwrap_or_else(|error| panic!("{name}: {error}")))).collect()
+}
+
+/// Runs the program on one input and hands back the kind of its answer; ends with 1 at a difference.
+fn tried(program: &str, name: &str, bytes: &[u8]) -> String {
+    let text = run(program, bytes).unwrap_or_else(|what| panic!("{what}"));
+    compare(bytes, &text).unwrap_or_else(|what| {
+        println!("DIFFERENCE in {name}: {what}");
+        println!("input   \"{}\"", bytes.escape_ascii());
+        println!("printed \"{}\"", text.escape_ascii());
+        println!("solver  \"{}\"", airtable(bytes).escape_ascii());
+        std::process::exit(1);
+    })
+}
+
 /// Runs all inputs; prints the first difference and ends with 1, or the counts.
 fn main() {
-    let program = std::env::args().nth(1).expect("usage: drive PATH_TO_AIRTABLE [--seed N] [--times K]");
+    let usage = "usage: drive PATH_TO_AIRTABLE [--seed N] [--times K] [FILE.rule ..]";
+    let program = std::env::args().nth(1).expect(usage);
     let (seed, times) = (option("--seed", 1), option("--times", 1));
     let mut counts = BTreeMap::new();
+    for (name, bytes) in files() {
+        *counts.entry(tried(&program, &name, &bytes)).or_insert(0) += 1;
+    }
     for k in 0..600 * times {
         let bytes = input(&mut Chance::new(seed, 0, k), k as usize);
-        let text = run(&program, &bytes).unwrap_or_else(|what| panic!("{what}"));
-        match compare(&bytes, &text) {
-            Ok(kind) => *counts.entry(kind).or_insert(0) += 1,
-            Err(what) => {
-                println!("DIFFERENCE in input {k} of seed {seed}: {what}");
-                println!("input   \"{}\"", bytes.escape_ascii());
-                println!("printed \"{}\"", text.escape_ascii());
-                println!("solver  \"{}\"", airtable(&bytes).escape_ascii());
-                std::process::exit(1);
-            }
-        }
+        let name = format!("input {k} of seed {seed}");
+        *counts.entry(tried(&program, &name, &bytes)).or_insert(0) += 1;
     }
     for (kind, count) in counts {
         println!("{count:9}  {kind}");

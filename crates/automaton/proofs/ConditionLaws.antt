@@ -38,7 +38,7 @@ mask-judges κ i e x h =
 
 module _ (i : ℕ) (text : List ℕ) where
   refused : (ρ : Reading) → ReadingOf i (conditionKind i) text ρ → (x : Refusal) → isNothing x ≡ false → x ≡ conditionRefusal i text ρ → Conditioned i text (Refused x)
-  refused ρ r x s e = record { reading = ρ; read = r; refusal = x; first = e; refused = λ _. refl; served = λ z. absurd (something x s z) }
+  refused ρ r x s e = record { reading = ρ; read = r; refusal = x; first = e; number = refl; place = refl; refused = λ _. refl; served = λ z. absurd (something x s z) }
 
   unread : (x : Refusal) → isNothing x ≡ false → ((ρ : Reading) → x ≡ conditionRefusal i text ρ) → Conditioned i text (Refused x)
   unread x s e = let r = some-reading i 0 false text in refused (r .0) (r .1) x s (e (r .0))
@@ -67,6 +67,8 @@ module _ (i : ℕ) (text : List ℕ) where
             read = r;
             refusal = Nothing;
             first = rw (p, q);
+            number = refl;
+            place = refl;
             refused = λ z. absurd (z refl);
             served = λ _. record { formula = κ; good = g; answer = ap Mask u; judges = mask-judges κ i e };
           }

@@ -52,6 +52,8 @@ module _ (i o : ℕ) (text t a : List ℕ) where
         counted = n .1;
         refusal = x;
         first = e (n .0);
+        number = refl;
+        place = refl;
         answer = rw s;
         served = λ z. absurd (something x s z);
         over = λ z. absurd (d z);
@@ -97,6 +99,8 @@ module _ (i o : ℕ) (text t a : List ℕ) where
                 counted = counts i o text φ g (stateCount φ (letterCount i o)) refl;
                 refusal = StateCount;
                 first = sym (counted-refusal m (stateCount φ (letterCount i o)) ∙ rw (lt-ltb stateLimit (stateCount φ (letterCount i o)) (v .count)));
+                number = refl;
+                place = refl;
                 answer = refl;
                 served = λ z. absurd (something StateCount refl z);
                 over = λ _. record { formula = φ; good = g; many = v .many; cleared = v .cleared; untouched = v .untouched };
@@ -112,6 +116,8 @@ module _ (i o : ℕ) (text t a : List ℕ) where
                 counted = counts i o text φ g n (v .count);
                 refusal = Nothing;
                 first = sym (counted-refusal m n ∙ rw (le-ltb stateLimit n h));
+                number = refl;
+                place = refl;
                 answer = refl;
                 served = λ _. record { formula = φ; good = g; automaton = v .automaton; transitions-rest = v .transitions-rest; accepting-rest = v .accepting-rest };
                 over = λ z. absurd (differs Nothing StateCount (λ e. omega arith) z);

@@ -22,3 +22,4 @@ pub mod CoordinateLaws
 pub mod LoopLaws
 pub mod AlphabetLaws
 pub mod OneAutomaton
+pub mod OneAnswer

@@ -12,7 +12,7 @@ use Rattle.reader.specs.declared.refusal.Refusal.the-variants.{Nothing, Alphabe
 use Rattle.reader.specs.Formula.{Formula}
 use Rattle.reader.specs.Marks.{conditionKind}
 use Rattle.reader.specs.Reading.{ReadingOf, IsGood}
-use Rattle.reader.specs.Refusal.{afterCondition}
+use Rattle.reader.specs.Refusal.{numberOf, placeOf, afterCondition}
 use Rattle.automaton.specs.declared.condition.Assumption.{Assumption}
 use Rattle.automaton.specs.declared.condition.Assumption.the-variants.{Mask, Refused}
 use Rattle.automaton.specs.Alphabet.{badAlphabet, tooLong}
@@ -33,6 +33,15 @@ Judges κ i mask = (x : ℕ) → x < 2 ^ i → (bit mask x ≡ true) ↔ Satisfi
 unfoldable pub conditionRefusal : ℕ → List ℕ → Reading → Refusal
 conditionRefusal i text ρ = cond (badAlphabet i 0) Alphabet (cond (tooLong text) TextLength (afterCondition ρ Nothing))
 
+-- 01's number and place of every answer: none where the call is served
+abbrev pub assumptionNumber : Assumption → ℕ
+assumptionNumber (Mask m) = 0
+assumptionNumber (Refused x) = numberOf x
+
+abbrev pub assumptionPlace : Assumption → ℕ
+assumptionPlace (Mask m) = 0
+assumptionPlace (Refused x) = placeOf x
+
 -- the answer of a served call
 pub record Masked (i : ℕ) (text : List ℕ) (r : Assumption) : Type 0 where
   pub formula : Formula
@@ -46,5 +55,7 @@ pub record Conditioned (i : ℕ) (text : List ℕ) (r : Assumption) : Type 0 whe
   pub read : ReadingOf i (conditionKind i) text reading
   pub refusal : Refusal
   pub first : refusal ≡ conditionRefusal i text reading
+  pub number : assumptionNumber r ≡ numberOf refusal
+  pub place : assumptionPlace r ≡ placeOf refusal
   pub refused : (refusal ≡ Nothing → ⊥) → r ≡ Refused refusal
   pub served : refusal ≡ Nothing → Masked i text r

@@ -13,7 +13,7 @@ use Rattle.reader.specs.declared.refusal.Refusal.the-variants.{Nothing, Alphabe
 use Rattle.reader.specs.Formula.{Formula}
 use Rattle.reader.specs.Marks.{ruleKind}
 use Rattle.reader.specs.Reading.{ReadingOf, IsGood}
-use Rattle.reader.specs.Refusal.{isNothing, afterRule}
+use Rattle.reader.specs.Refusal.{numberOf, placeOf, isNothing, afterRule}
 use Rattle.automaton.specs.declared.construct.Construction.{Construction}
 use Rattle.automaton.specs.declared.construct.Construction.the-variants.{Built, Refused}
 use Rattle.automaton.specs.Limits.{stateLimit}
@@ -37,6 +37,15 @@ constructRefusal i o text transitions accepting ρ n =
     (cond (shortAutomaton (letterCount i o) transitions accepting) Buffer
     (afterRule ρ
     (cond (ltb stateLimit n) StateCount Nothing))))
+
+-- 01's number and place of every answer: none where the call is served
+abbrev pub constructionNumber : Construction → ℕ
+constructionNumber (Built n) = 0
+constructionNumber (Refused x) = numberOf x
+
+abbrev pub constructionPlace : Construction → ℕ
+constructionPlace (Built n) = 0
+constructionPlace (Refused x) = placeOf x
 
 -- the buffers of a served call: the automaton of the text's formula with n states, 0 up to 128 states' share, and beyond as they were
 pub record Served (i o : ℕ) (text : List ℕ) (n : ℕ) (transitions accepting transitions′ accepting′ : List ℕ) : Type 0 where
@@ -62,6 +71,8 @@ pub record Constructed (i o : ℕ) (text transitions accepting transitions′ ac
   pub counted : CountOf i o text states
   pub refusal : Refusal
   pub first : refusal ≡ constructRefusal i o text transitions accepting reading states
+  pub number : constructionNumber r ≡ numberOf refusal
+  pub place : constructionPlace r ≡ placeOf refusal
   pub answer : r ≡ cond (isNothing refusal) (Built states) (Refused refusal)
   pub served : refusal ≡ Nothing → Served i o text states transitions accepting transitions′ accepting′
   pub over : refusal ≡ StateCount → Over i o text transitions accepting transitions′ accepting′

@@ -1,5 +1,5 @@
--- The promise of the listing call: what the program prints for an input, and what is written of it. It rests on the rule call's promise (01: "the program .. rest[s] on
--- the promise of the one below"): the listing is that of an answer and of four buffers for which the rule call's promise holds.
+-- The promise of the listing call: what the program prints for an input, and what is written of it. It rests on the rule call's promise:
+-- the listing is that of an answer and of four buffers for which that promise holds.
 -- Assumes nothing.
 use Prim.Native.Nat.{ℕ, min}
 use mathlib.Core.Path.{_≡_}

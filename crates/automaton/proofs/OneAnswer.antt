@@ -1,0 +1,107 @@
+-- The promises of the layer's calls have one answer: what is given determines what the trial says, a condition's mask, n, and the refusal with its place.
+-- The buffers of the construction call are determined by OneAutomaton.
+-- Assumes nothing.
+use Prim.Native.Nat.{ℕ}
+use mathlib.Core.Path.{_≡_, refl, sym, ap, _∙_, subst}
+use mathlib.Core.Bool.{Bool, true, false, cond}
+use mathlib.Core.List.{List}
+use mathlib.Core.Logic.{_↔_, _⊎_, ⊎-elim}
+use Rattle.reader.specs.declared.reading.Reading.{Reading}
+use Rattle.reader.specs.declared.reading.Reading.the-variants.{Good, Bad, TooManyNodes, TooManyOperators}
+use Rattle.reader.specs.declared.refusal.Refusal.{Refusal}
+use Rattle.reader.specs.declared.refusal.Refusal.the-variants.{Nothing}
+use Rattle.reader.specs.Formula.{Formula}
+use Rattle.reader.specs.Marks.{ruleKind}
+use Rattle.reader.specs.Reading.{ReadingOf}
+use Rattle.reader.specs.Refusal.{isNothing}
+use Rattle.reader.proofs.RefusalLaws.{something, refused-or-served}
+use Rattle.reader.proofs.Unambiguous.{one-formula, one-reading}
+use Rattle.automaton.specs.declared.trial.Trial.{Trial}
+use Rattle.automaton.specs.declared.trial.Trial.the-variants.{Satisfied, Violated}
+use Rattle.automaton.specs.declared.condition.Assumption.{Assumption}
+use Rattle.automaton.specs.declared.condition.Assumption.the-variants.{Mask}
+use Rattle.automaton.specs.declared.construct.Construction.{Construction}
+use Rattle.automaton.specs.declared.construct.Construction.the-variants.{Built}
+use Rattle.automaton.specs.Trace.{Satisfies}
+use Rattle.automaton.specs.Trial.{trialRefusal, Tried}
+use Rattle.automaton.specs.Condition.{maskOf, conditionRefusal, Conditioned}
+use Rattle.automaton.specs.Construction.{CountOf, constructRefusal, Constructed}
+
+-- two tests that say whether the same holds are one
+same-test : {A : Type 0} (b c : Bool) → (b ≡ true) ↔ A → (c ≡ true) ↔ A → b ≡ c
+same-test true c f g = sym (g .1 (f .0 refl))
+same-test false true f g = f .1 (g .0 refl)
+same-test false false f g = refl
+
+module _ (i o : ℕ) (text letters : List ℕ) (r r′ : Trial) (x : Tried i o text letters r) (y : Tried i o text letters r′) where
+  same-trial-refusal : x .refusal ≡ y .refusal
+  same-trial-refusal = x .first ∙ ap (trialRefusal i o text letters) (one-reading i o true text (x .read) (y .read)) ∙ sym (y .first)
+
+  -- the trial has one answer
+  pub one-trial : r ≡ r′
+  one-trial =
+      ⊎-elim
+      (λ n.
+      let u = x .served n in
+      let v = y .served (sym same-trial-refusal ∙ n) in
+      let e : v .formula ≡ u .formula = one-formula i o true text (v .good .reads) (u .good .reads) in
+      let w : (v .satisfied ≡ true) ↔ Satisfies (u .formula) letters = subst (λ (φ : Formula). (v .satisfied ≡ true) ↔ Satisfies φ letters) e (v .right) in
+      u .answer ∙ ap (λ (b : Bool). cond b Satisfied Violated) (same-test (u .satisfied) (v .satisfied) (u .right) w) ∙ sym (v .answer))
+      (λ n.
+      let e = something (x .refusal) n in
+      x .refused e ∙ ap Rattle.automaton.specs.declared.trial.Trial.the-variants.Refused same-trial-refusal ∙ sym (y .refused (λ z. e (same-trial-refusal ∙ z))))
+      (refused-or-served (x .refusal))
+
+module _ (i : ℕ) (text : List ℕ) (r r′ : Assumption) (x : Conditioned i text r) (y : Conditioned i text r′) where
+  same-condition-refusal : x .refusal ≡ y .refusal
+  same-condition-refusal = x .first ∙ ap (conditionRefusal i text) (one-reading i 0 false text (x .read) (y .read)) ∙ sym (y .first)
+
+  -- a condition has one mask
+  pub one-condition : r ≡ r′
+  one-condition =
+      ⊎-elim
+      (λ n.
+      let u = x .served n in
+      let v = y .served (sym same-condition-refusal ∙ n) in
+      let e : u .formula ≡ v .formula = one-formula i 0 false text (u .good .reads) (v .good .reads) in
+      u .answer ∙ ap (λ (κ : Formula). Mask (maskOf κ i)) e ∙ sym (v .answer))
+      (λ n.
+      let e = something (x .refusal) n in
+      x .refused e ∙ ap Rattle.automaton.specs.declared.condition.Assumption.the-variants.Refused same-condition-refusal ∙ sym (y .refused (λ z. e (same-condition-refusal ∙ z))))
+      (refused-or-served (x .refusal))
+
+-- where a rule is not good, its number of states does not matter; where it is, it has one
+one-refusal : (i o : ℕ) (text t a : List ℕ) (ρ : Reading) (n m : ℕ) → ReadingOf i (ruleKind i o) text ρ → CountOf i o text n → CountOf i o text m
+    → constructRefusal i o text t a ρ n ≡ constructRefusal i o text t a ρ m
+unfolding ReadingOf constructRefusal
+one-refusal i o text t a (Good k) n m r c d = ap (constructRefusal i o text t a (Good k)) (c (r .0) (r .1) ∙ sym (d (r .0) (r .1)))
+one-refusal i o text t a (Bad k) n m r c d = refl
+one-refusal i o text t a TooManyNodes n m r c d = refl
+one-refusal i o text t a TooManyOperators n m r c d = refl
+
+-- the answer to a refusal and a number of states
+abbrev answered : Refusal → ℕ → Construction
+answered z n = cond (isNothing z) (Built n) (Rattle.automaton.specs.declared.construct.Construction.the-variants.Refused z)
+
+-- a refusal carries no number of states
+without-count : (z : Refusal) (n m : ℕ) → isNothing z ≡ false → answered z n ≡ answered z m
+without-count z n m e = rw e
+
+module _ (i o : ℕ) (text t a t₁ a₁ t₂ a₂ : List ℕ) (r r′ : Construction) (x : Constructed i o text t a t₁ a₁ r) (y : Constructed i o text t a t₂ a₂ r′) where
+  same-construction-refusal : x .refusal ≡ y .refusal
+  same-construction-refusal =
+      x .first
+      ∙ ap (λ (ρ : Reading). constructRefusal i o text t a ρ (x .states)) (one-reading i o true text (x .read) (y .read))
+      ∙ one-refusal i o text t a (y .reading) (x .states) (y .states) (y .read) (x .counted) (y .counted)
+      ∙ sym (y .first)
+
+  same-states : answered (x .refusal) (x .states) ≡ answered (x .refusal) (y .states)
+  same-states =
+      ⊎-elim
+      (λ n. let s = x .served n in ap (answered (x .refusal)) (x .counted (s .formula) (s .good) ∙ sym (y .counted (s .formula) (s .good))))
+      (λ n. without-count (x .refusal) (x .states) (y .states) n)
+      (refused-or-served (x .refusal))
+
+  -- the construction call has one answer
+  pub one-construction : r ≡ r′
+  one-construction = x .answer ∙ same-states ∙ ap (λ (z : Refusal). answered z (y .states)) same-construction-refusal ∙ sym (y .answer)

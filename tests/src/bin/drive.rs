@@ -80,13 +80,16 @@ const BY_HAND: &[&[u8]] = &[
     b"1 1\n\n1\nFp\n",
 ];
 
-/// An input line of some length with both ends of the limits.
+/// An input of some length with both ends of the limits; sometimes a byte too many behind four lines.
 fn long_input(chance: &mut Chance) -> Vec<u8> {
     let mut bytes = b"1 1\nfair\n1\n".to_vec();
-    let whole = chance.pick(&[266, 267, 268, 1000, 2046, 2047, 2048, 2049, 2050, 5000]);
+    let whole = chance.pick(&[266, 268, 1000, 2046, 2047, 2048, 2048, 2048, 2048, 2049, 2050, 5000]);
     bytes.push(b'p');
     bytes.resize(whole - 1, b' ');
     bytes.push(b'\n');
+    if chance.one_in(3) {
+        bytes.push(b' ');
+    }
     bytes
 }
 

@@ -63,6 +63,15 @@ pub fn mode_byte(mode: Mode, any: u8) -> u8 {
     }
 }
 
+/// Where lent bytes begin; nowhere if there are none.
+fn first(bytes: &[u8]) -> *const u8 {
+    if bytes.is_empty() {
+        std::ptr::null()
+    } else {
+        bytes.as_ptr()
+    }
+}
+
 /// The library's call for a rule.
 #[allow(clippy::too_many_arguments)]
 pub fn solve_rule(
@@ -82,9 +91,9 @@ pub fn solve_rule(
             i,
             o,
             mode,
-            rule.as_ptr(),
+            first(rule),
             rule.len(),
-            condition.as_ptr(),
+            first(condition),
             condition.len(),
             moves.pointer(),
             moves.told,
@@ -123,9 +132,9 @@ pub fn solve_given(
             o,
             mode,
             n,
-            moves.as_ptr(),
+            first(moves),
             moves.len(),
-            marks.as_ptr(),
+            first(marks),
             marks.len(),
             start,
             mask,
@@ -151,19 +160,19 @@ pub fn follow(
     station: &[u8],
     input: usize,
     state: usize,
-    reached: bool,
+    reached: u8,
 ) -> Followed {
-    let mut told = Followed { number: 0, state, reached: reached as u8, row: ODD, output: ODD, place: SENTINEL };
+    let mut told = Followed { number: 0, state, reached, row: ODD, output: ODD, place: SENTINEL };
     told.number = unsafe {
         airtable_follow(
             i,
             o,
             n,
-            moves.as_ptr(),
+            first(moves),
             moves.len(),
-            marks.as_ptr(),
+            first(marks),
             marks.len(),
-            station.as_ptr(),
+            first(station),
             station.len(),
             input,
             &mut told.state,
@@ -183,9 +192,9 @@ pub fn try_rule(i: usize, o: usize, rule: &[u8], letters: &[u8]) -> Told {
         airtable_try_rule(
             i,
             o,
-            rule.as_ptr(),
+            first(rule),
             rule.len(),
-            letters.as_ptr(),
+            first(letters),
             letters.len(),
             &mut told.answer,
             &mut told.place,

@@ -28,9 +28,13 @@ impl Lent {
         Lent { before: bytes.clone(), bytes, told }
     }
 
-    /// Where the buffer begins.
+    /// Where the buffer begins; nowhere if the call is told of no bytes.
     pub fn pointer(&mut self) -> *mut u8 {
-        self.bytes.as_mut_ptr()
+        if self.told == 0 {
+            std::ptr::null_mut()
+        } else {
+            self.bytes.as_mut_ptr()
+        }
     }
 
     /// The old contents that the call was told of.
@@ -57,7 +61,6 @@ impl Lent {
 #[derive(Default)]
 pub struct Tally {
     pub counts: BTreeMap<String, u64>,
-    pub notes: BTreeMap<String, u64>,
 }
 
 impl Tally {
@@ -65,27 +68,20 @@ impl Tally {
     pub fn count(&mut self, what: String) {
         *self.counts.entry(what).or_insert(0) += 1;
     }
+}
 
-    /// Notes something that 01 leaves open and that looks odd.
-    pub fn note(&mut self, what: &str) {
-        *self.notes.entry(what.to_string()).or_insert(0) += 1;
+/// Compares a single value that a call has to write.
+pub fn check_value(name: &str, value: usize, wanted: usize) -> Result<(), String> {
+    if value == wanted {
+        Ok(())
+    } else {
+        Err(format!("{name} {value}, wanted {wanted}"))
     }
 }
 
-/// Compares a place: exactly where 01 names one; else 0 or the value it had before.
-pub fn check_place(place: usize, wanted: Option<usize>, tally: &mut Tally) -> Result<(), String> {
-    match wanted {
-        Some(k) if place != k => Err(format!("place {place}, wanted {k}")),
-        None if place != 0 && place != SENTINEL => {
-            tally.note("a place that 01 leaves open is neither 0 nor as before");
-            Ok(())
-        }
-        _ => Ok(()),
-    }
-}
-
-/// Compares number and place of a call with the solver's answer; `Ok` is number 0.
-pub fn check_number(told: &Told, wanted: Result<(), Refusal>, tally: &mut Tally) -> Result<(), String> {
+/// Compares number and place of a call with the solver's answer; `Ok` is number 0. The place is 0
+/// where there is none, and so is the answer of a refused call.
+pub fn check_number(told: &Told, wanted: Result<(), Refusal>) -> Result<(), String> {
     let (number, place) = match wanted {
         Ok(()) => (0, None),
         Err(refusal) => (refusal.number, refusal.place),
@@ -93,10 +89,10 @@ pub fn check_number(told: &Told, wanted: Result<(), Refusal>, tally: &mut Tally)
     if told.number != number {
         return Err(format!("number {} (place {}), wanted {number} (place {place:?})", told.number, told.place));
     }
-    if number != 0 && told.answer != crate::capi::ODD && told.answer != 0 {
-        tally.note("a refusal wrote a verdict other than 0");
+    if number != 0 {
+        check_value("answer of a refused call", told.answer as usize, 0)?;
     }
-    check_place(told.place, place, tally)
+    check_value("place", told.place, place.unwrap_or(0))
 }
 
 /// Compares a verdict byte, which has to be 0 or 1.

@@ -62,7 +62,7 @@ impl Case {
         }
         let (mut station, mut outside) = (self.station.old(), self.outside.old());
         let wanted = solve_given(self.i, self.o, self.mode, &self.given, &mut station, &mut outside);
-        check_number(&told, wanted.map(|_| ()), tally)?;
+        check_number(&told, wanted.map(|_| ()))?;
         match wanted {
             Err(refusal) => self.refused(refusal, tally),
             Ok(can) => {

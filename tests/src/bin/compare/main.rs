@@ -142,9 +142,6 @@ fn report(tally: &Tally) {
     for (what, count) in &tally.counts {
         println!("{count:9}  {what}");
     }
-    for (what, count) in &tally.notes {
-        println!("{count:9}  NOTE {what}");
-    }
 }
 
 /// Runs all kinds, or the one that was asked for.

@@ -38,7 +38,7 @@ impl Play<'_> {
         let [moves, marks, station] = [&self.case.moves, &self.case.marks, &self.case.station].map(shown);
         let lent = Shown { n: self.n, moves: &moves, marks: &marks, station: &station };
         let input = chance.below(1 << i);
-        let call = Call { i, o, lent, input, state: self.state, reached: self.reached };
+        let call = Call { i, o, lent, input, state: self.state, reached: self.reached as u8 };
         match step(&call, tally)? {
             Some(step) => Ok(Some(input + ((step.output as usize) << i))),
             None if self.reached => Ok(None),

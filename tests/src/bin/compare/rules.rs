@@ -76,7 +76,7 @@ impl Case {
     pub fn compare(&mut self, any: u8, tally: &mut Tally) -> Result<Option<Verdict>, String> {
         let told = self.call(any);
         let (wanted, buffers) = self.wanted();
-        check_number(&told, wanted.map(|_| ()), tally)?;
+        check_number(&told, wanted.map(|_| ()))?;
         self.moves.check("moves", &buffers.moves)?;
         self.marks.check("marks", &buffers.marks)?;
         match wanted {
@@ -88,9 +88,7 @@ impl Case {
     /// After a refusal the tables are untouched.
     fn refused(&self, told: Told, refusal: Refusal, tally: &mut Tally) -> Result<(), String> {
         tally.count(format!("rule: refused {:2}", refusal.number));
-        if told.n != SENTINEL && told.n != 0 {
-            tally.note("a refused rule wrote an n other than 0");
-        }
+        check_value("n of a refused rule", told.n, 0)?;
         self.station.untouched("station")?;
         self.outside.untouched("outside")
     }
@@ -98,9 +96,7 @@ impl Case {
     /// After a served call n and the verdict are compared and the tables judged.
     fn served(&self, told: Told, verdict: Verdict, buffers: &Buffers, tally: &mut Tally) -> Result<(), String> {
         tally.count(format!("rule: {}", if verdict.can { "can" } else { "cannot" }));
-        if told.n != verdict.n {
-            return Err(format!("n {}, wanted {}", told.n, verdict.n));
-        }
+        check_value("n", told.n, verdict.n)?;
         check_answer(told.answer, verdict.can)?;
         let tree = read(&self.condition, Wording::condition(self.i)).unwrap();
         let mask = condition_mask(&tree, self.i);

@@ -26,7 +26,7 @@ const READINGS: [(Mode, &str, &str, Option<(bool, usize)>); 14] = [
     (Mode::Fair, "1", "XXXXXa", None),
 ];
 
-/// The count of readings, the two with other counts of inputs and outputs included.
+/// The count of readings, the one with i = o = 4 included.
 pub const READINGS_COUNT: u64 = 15;
 
 /// The count of published rows.

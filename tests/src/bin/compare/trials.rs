@@ -27,7 +27,7 @@ pub fn run(i: usize, o: usize, rule: &[u8], letters: &[u8], tally: &mut Tally) -
 fn compare(i: usize, o: usize, rule: &[u8], letters: &[u8], tally: &mut Tally) -> Result<(), String> {
     let told = capi::try_rule(i, o, rule, letters);
     let wanted = try_rule(i, o, rule, letters);
-    check_number(&told, wanted.map(|_| ()), tally)?;
+    check_number(&told, wanted.map(|_| ()))?;
     match wanted {
         Ok(satisfied) => {
             tally.count(format!("trial: satisfied {satisfied}"));

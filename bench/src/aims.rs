@@ -23,12 +23,11 @@ impl Aims {
     }
 
     /// Notes a row in which MONA, its start left out, takes less than a hundred times as long.
-    pub fn mona(&mut self, name: &str, library: f64, timing: Timing, n: usize, classes: usize) {
-        let over = timing.net * 1e3 / library;
-        if over < 100.0 {
-            let times = format!("{} µs against {} ms", short(library), short(timing.net));
+    pub fn mona(&mut self, name: &str, timing: Timing, n: usize, classes: usize) {
+        if timing.over_net < 100.0 {
+            let (over, whole) = (short(timing.over_net), short(timing.over));
             let states = format!("n {n}, minimal {classes}");
-            self.mona.push(format!("{name}: MONA takes {} times as long ({times}; {states})", short(over)));
+            self.mona.push(format!("{name}: MONA takes {over} times as long, {whole} with its start ({states})"));
         }
     }
 

@@ -1,25 +1,26 @@
 //! README: medians of interleaved samples. Each sample runs a call as often as fills about a
-//! millisecond; the contenders take turns, so that a slow spell of the machine meets them all.
+//! millisecond; the contenders take turns, every other time in the opposite order, so that a slow
+//! spell of the machine meets them all.
 
+use crate::timed::Call;
 use std::time::{Duration, Instant};
 
 /// How long a sample should last at least.
 const SAMPLE: Duration = Duration::from_millis(1);
 
-/// Samples of each contender, and of those with a call of over `LONG`.
-const SAMPLES: usize = 15;
+/// Samples of each contender, and where a call takes over `LONG` microseconds.
+const SAMPLES: usize = 31;
 const FEW: usize = 5;
-const LONG: Duration = Duration::from_millis(40);
+const LONG: f64 = 40_000.0;
 
-/// One contender: a call, and how often a sample runs it.
-struct Contender<'a> {
-    call: &'a mut dyn FnMut(),
+/// A call with how often a sample runs it.
+pub struct Contender<'a> {
+    call: Call<'a>,
     times: u32,
-    samples: Vec<f64>,
 }
 
 /// The time of `times` calls in a row.
-fn lap(call: &mut dyn FnMut(), times: u32) -> Duration {
+fn lap(call: &mut Call, times: u32) -> Duration {
     let begin = Instant::now();
     for _ in 0..times {
         call();
@@ -27,17 +28,24 @@ fn lap(call: &mut dyn FnMut(), times: u32) -> Duration {
     begin.elapsed()
 }
 
-/// How often a call fits into a sample; the first call only warms up.
-fn calibrate(call: &mut dyn FnMut()) -> (u32, Duration) {
-    call();
-    let mut times = 1;
-    loop {
-        let took = lap(call, times);
-        if took >= SAMPLE || times >= 1 << 20 {
-            return (times, took);
+impl Contender<'_> {
+    /// Finds how often a call fits into a sample; the first call only warms up.
+    pub fn new(mut call: Call) -> Contender {
+        call();
+        let mut times = 1;
+        loop {
+            let took = lap(&mut call, times);
+            if took >= SAMPLE || times >= 1 << 20 {
+                return Contender { call, times };
+            }
+            let wanted = SAMPLE.as_nanos() as f64 / took.as_nanos().max(1) as f64;
+            times = (times as f64 * wanted.clamp(1.3, 16.0)).ceil() as u32;
         }
-        let wanted = SAMPLE.as_nanos() as f64 / took.as_nanos().max(1) as f64;
-        times = (times as f64 * wanted.clamp(1.3, 16.0)).ceil() as u32;
+    }
+
+    /// Takes a sample: microseconds of one call.
+    pub fn sample(&mut self) -> f64 {
+        lap(&mut self.call, self.times).as_secs_f64() * 1e6 / self.times as f64
     }
 }
 
@@ -48,21 +56,18 @@ pub fn median(mut numbers: Vec<f64>) -> f64 {
 }
 
 /// Samples of each call in microseconds, all calls taking turns.
-pub fn samples(calls: &mut [&mut dyn FnMut()]) -> Vec<Vec<f64>> {
-    let mut longest = Duration::ZERO;
-    let mut contenders = vec![];
-    for call in calls.iter_mut() {
-        let (times, took) = calibrate(*call);
-        longest = longest.max(took / times);
-        contenders.push(Contender { call: *call, times, samples: vec![] });
-    }
-    for _ in 0..if longest > LONG { FEW } else { SAMPLES } {
-        for contender in &mut contenders {
-            let took = lap(contender.call, contender.times);
-            contender.samples.push(took.as_secs_f64() * 1e6 / contender.times as f64);
+pub fn samples(calls: Vec<Call>) -> Vec<Vec<f64>> {
+    let mut contenders: Vec<Contender> = calls.into_iter().map(Contender::new).collect();
+    let mut samples: Vec<Vec<f64>> = contenders.iter_mut().map(|contender| vec![contender.sample()]).collect();
+    let long = samples.iter().any(|taken| taken[0] > LONG);
+    let count = contenders.len();
+    for turn in 1..if long { FEW } else { SAMPLES } {
+        for k in 0..count {
+            let k = if turn % 2 == 0 { k } else { count - 1 - k };
+            samples[k].push(contenders[k].sample());
         }
     }
-    contenders.into_iter().map(|contender| contender.samples).collect()
+    samples
 }
 
 /// Median microseconds of the library and of the solver, and the median of what each turn of the
@@ -75,8 +80,8 @@ pub struct Pair {
 }
 
 /// Times the library's call beside the solver's.
-pub fn pair(library: &mut dyn FnMut(), solver: &mut dyn FnMut()) -> Pair {
-    let samples = samples(&mut [library, solver]);
+pub fn pair(library: Call, solver: Call) -> Pair {
+    let samples = samples(vec![library, solver]);
     let ratios = samples[0].iter().zip(&samples[1]).map(|(own, other)| own / other).collect();
     Pair { library: median(samples[0].clone()), solver: median(samples[1].clone()), ratio: median(ratios) }
 }

@@ -1,7 +1,6 @@
-//! README: library and solver on one input: the answers are compared first, then both are timed.
-//! Any difference ends the run with exit code 1.
+//! README: library and solver on one input: the answers are compared before anything is timed. Any
+//! difference ends the run with exit code 1.
 
-use crate::clock::{pair, Pair};
 use crate::inputs::Rule;
 use crate::library::Library;
 use solver::automaton::Automaton;
@@ -11,7 +10,6 @@ use solver::reader::read;
 use solver::tree::condition_mask;
 use solver::wording::Wording;
 use solver::Mode;
-use std::hint::black_box;
 
 /// Ends the run: something differs that must not.
 pub fn differ(what: &str) -> ! {
@@ -20,7 +18,7 @@ pub fn differ(what: &str) -> ! {
 }
 
 /// Buffers for the solver's call, as large as the library's.
-fn solver_buffers(i: usize, o: usize) -> Buffers {
+pub fn solver_buffers(i: usize, o: usize) -> Buffers {
     let library = Library::new(i, o);
     Buffers { moves: library.moves, marks: library.marks, station: library.station, outside: library.outside }
 }
@@ -64,22 +62,6 @@ pub fn check_rule(rule: &Rule, mode: Mode) -> Option<Library> {
     Some(library)
 }
 
-/// Times the whole call for a rule.
-pub fn time_rule(rule: &Rule, mode: Mode) -> Pair {
-    let Rule { i, o, .. } = *rule;
-    let mut library = Library::new(i, o);
-    let mut buffers = solver_buffers(i, o);
-    pair(
-        &mut || {
-            library.solve_rule(i, o, mode, black_box(&rule.text), black_box(&rule.condition));
-            black_box(&library.number);
-        },
-        &mut || {
-            let _ = black_box(solve_rule(i, o, mode, black_box(&rule.text), black_box(&rule.condition), &mut buffers));
-        },
-    )
-}
-
 /// Compares the verdict on a given automaton with the solver's, and has the tables judged.
 pub fn check_given(name: &str, i: usize, o: usize, mode: Mode, given: &Given) {
     let mut library = Library::new(i, o);
@@ -96,19 +78,4 @@ pub fn check_given(name: &str, i: usize, o: usize, mode: Mode, given: &Given) {
     if let Err(what) = judge(&game_of_given(i, o, mode, given), &library.station, &library.outside) {
         differ(&format!("{name}: {what}"));
     }
-}
-
-/// Times the call for a given automaton.
-pub fn time_given(i: usize, o: usize, mode: Mode, given: &Given) -> Pair {
-    let mut library = Library::new(i, o);
-    let (mut station, mut outside) = (vec![0; 128 << i], vec![0; 128]);
-    pair(
-        &mut || {
-            library.solve_given(i, o, mode, black_box(given));
-            black_box(&library.can);
-        },
-        &mut || {
-            let _ = black_box(solve_given(i, o, mode, black_box(given), &mut station, &mut outside));
-        },
-    )
 }

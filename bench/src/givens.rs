@@ -3,10 +3,11 @@
 
 use crate::aims::Aims;
 use crate::cells;
-use crate::compare::{check_given, time_given};
+use crate::compare::check_given;
 use crate::effort::effort;
 use crate::shapes::{crowded, longest, random};
 use crate::table::{short, Table};
+use crate::timed::time_given;
 use solver::calls::{game_of_given, Given};
 use solver::Mode;
 

@@ -3,10 +3,12 @@
 //! for a given automaton on the same automaton, and taken off.
 
 use crate::cells;
-use crate::compare::{check_rule, time_given, time_rule};
+use crate::clock::{median, samples};
+use crate::compare::check_rule;
 use crate::families;
 use crate::inputs::Rule;
 use crate::table::{code, short, Table};
+use crate::timed::{library_given, library_rule, solver_given, solver_rule, Call};
 use solver::calls::Given;
 use solver::Mode;
 
@@ -24,42 +26,77 @@ const HEADS: [&str; 11] = [
     "Solver, ns for each n × L",
 ];
 
-/// A measured rule: its size n × L and the microseconds of the automaton alone.
-struct Point {
-    size: f64,
-    automaton: f64,
+/// A rule with its automaton, ready for the call for given automata.
+struct Member<'a> {
+    rule: &'a Rule,
+    given: Given,
 }
 
-/// The slope between two points in a log-log diagram.
-fn exponent(before: &Point, now: &Point) -> f64 {
-    (now.automaton / before.automaton).ln() / (now.size / before.size).ln()
+/// Median microseconds of a member's four calls.
+struct Times {
+    library: f64,
+    library_game: f64,
+    solver: f64,
+    solver_game: f64,
 }
 
-/// Times one rule and fills its row; the exponent is from the point before, where sizes differ.
-fn row(rule: &Rule, before: Option<&Point>) -> (Vec<String>, Point) {
-    let library = check_rule(rule, Mode::Fair).expect("a family within the limits");
-    let (n, start, mask) = (library.n, 0, 0);
-    let moves = library.moves[..n * rule.letters()].to_vec();
-    let given = Given { n, moves, marks: library.marks[..n].to_vec(), start, mask };
-    let whole = time_rule(rule, Mode::Fair);
-    let game = time_given(rule.i, rule.o, Mode::Fair, &given);
-    let size = (n * rule.letters()) as f64;
-    let point = Point { size, automaton: whole.library - game.library };
-    let slope = before.filter(|before| before.size != size).map(|before| short(exponent(before, &point)));
-    let mut cells = cells![code(&rule.text), rule.i, rule.o, rule.operators(), n, size];
-    cells.extend(cells![short(whole.library), short(game.library), short(point.automaton * 1e3 / size)]);
-    cells.extend(cells![slope.unwrap_or_default(), short((whole.solver - game.solver) * 1e3 / size)]);
-    (cells, point)
+impl Member<'_> {
+    /// A rule's automaton from the library, which the solver agrees with.
+    fn new(rule: &Rule) -> Member<'_> {
+        let library = check_rule(rule, Mode::Fair).expect("a family within the limits");
+        let (n, start, mask) = (library.n, 0, 0);
+        let moves = library.moves[..n * rule.letters()].to_vec();
+        Member { rule, given: Given { n, moves, marks: library.marks[..n].to_vec(), start, mask } }
+    }
+
+    /// The four calls: library and solver, for the rule and for its automaton.
+    fn calls(&self) -> [Call<'_>; 4] {
+        let Rule { i, o, .. } = *self.rule;
+        let game = library_given(i, o, Mode::Fair, &self.given);
+        let other = solver_given(i, o, Mode::Fair, &self.given);
+        [library_rule(self.rule, Mode::Fair), game, solver_rule(self.rule, Mode::Fair), other]
+    }
+
+    /// n × L.
+    fn size(&self) -> f64 {
+        (self.given.n * self.rule.letters()) as f64
+    }
 }
 
-/// Prints the table of one family.
+impl Times {
+    /// Medians out of the samples of the four calls.
+    fn new(samples: &[Vec<f64>]) -> Times {
+        let middle = |k: usize| median(samples[k].clone());
+        Times { library: middle(0), library_game: middle(1), solver: middle(2), solver_game: middle(3) }
+    }
+
+    /// The library's time for the automaton alone.
+    fn automaton(&self) -> f64 {
+        self.library - self.library_game
+    }
+}
+
+/// The slope between two members in a log-log diagram; nothing where their sizes are equal.
+fn exponent(before: (&Member, &Times), now: (&Member, &Times)) -> Option<f64> {
+    let sizes = now.0.size() / before.0.size();
+    (sizes != 1.0).then(|| (now.1.automaton() / before.1.automaton()).ln() / sizes.ln())
+}
+
+/// Prints the table of one family; all its calls take turns, so that its rows can be compared.
 fn print_family(title: &str, rules: &[Rule]) {
+    let members: Vec<Member> = rules.iter().map(Member::new).collect();
+    let samples = samples(members.iter().flat_map(Member::calls).collect());
+    let times: Vec<Times> = samples.chunks(4).map(Times::new).collect();
     let mut table = Table::new(&HEADS);
-    let mut before = None;
-    for rule in rules {
-        let (cells, point) = row(rule, before.as_ref());
+    for (k, (member, time)) in members.iter().zip(&times).enumerate() {
+        let Rule { i, o, ref text, .. } = *member.rule;
+        let before = k.checked_sub(1).map(|k| (&members[k], &times[k]));
+        let slope = before.and_then(|before| exponent(before, (member, time)));
+        let each = |microseconds: f64| short(microseconds * 1e3 / member.size());
+        let mut cells = cells![code(text), i, o, member.rule.operators(), member.given.n, member.size()];
+        cells.extend(cells![short(time.library), short(time.library_game), each(time.automaton())]);
+        cells.extend(cells![slope.map(short).unwrap_or_default(), each(time.solver - time.solver_game)]);
         table.row(cells);
-        before = Some(point);
     }
     table.print(title);
 }

@@ -1,9 +1,8 @@
 //! README: the library, the independent solver and MONA on the same inputs, side by side, printed
 //! as Markdown. Exit code 1 if their answers differ. The argument is the program `airtable`.
 //!
-//! clock      interleaved samples and their medians
-//! library    the C interface
-//! compare    library and solver: same answers, then times
+//! clock, timed      interleaved samples and their medians; the calls that are timed
+//! library, compare  the C interface; library and solver give the same answers
 //! inputs, families  rules; shapes, effort  given automata and what they ask of a solver by ranks
 //! mona, process, listing, language, outside  MONA: translation, runs, what it prints, is it the same
 //! rules, givens, growth, stack  the parts; aims, table  what falls short, and the printing
@@ -26,6 +25,7 @@ mod rules;
 mod shapes;
 mod stack;
 mod table;
+mod timed;
 
 use aims::Aims;
 use outside::Runs;

@@ -9,6 +9,7 @@ use crate::listing::parse;
 use crate::mona::translate;
 use crate::process::{Mona, Timing};
 use crate::table::{code, short};
+use crate::timed::library_rule;
 use solver::automaton::Automaton;
 use solver::chance::Chance;
 use solver::makers::rule_text;
@@ -48,9 +49,9 @@ impl Runs {
         Some(held)
     }
 
-    /// Times MONA on a rule.
+    /// Times MONA on a rule, beside the library's call in fair mode.
     pub fn time(&mut self, rule: &Rule) -> Option<Timing> {
-        let timing = self.mona.time(&translate(rule))?;
+        let timing = self.mona.time(&translate(rule), library_rule(rule, Mode::Fair))?;
         self.empty.push(timing.empty);
         Some(timing)
     }

@@ -1,6 +1,7 @@
 //! README: runs of MONA: the wall clock of a quiet run, and the automaton that a run prints.
 
-use crate::clock::median;
+use crate::clock::{median, Contender};
+use crate::timed::Call;
 use std::fs::File;
 use std::path::PathBuf;
 use std::process::{Command, Stdio};
@@ -17,12 +18,14 @@ const LONG: f64 = 200.0;
 /// A formula that asks nothing: what its run costs is the start of the process.
 const EMPTY: &str = "m2l-str;\ntrue;\n";
 
-/// Median milliseconds of a run: the whole, the empty runs beside it, and what is over.
+/// Medians: milliseconds of a run and of the empty run beside it, and how many times as long as the
+/// library's call beside it a run takes, with and without its start.
 #[derive(Clone, Copy, Debug)]
 pub struct Timing {
     pub whole: f64,
     pub empty: f64,
-    pub net: f64,
+    pub over: f64,
+    pub over_net: f64,
 }
 
 /// MONA with a file for its inputs and one for what it prints.
@@ -62,17 +65,21 @@ impl Mona {
         }
     }
 
-    /// The medians of several runs, each beside an empty one; nothing if one passes the timeout.
-    pub fn time(&self, text: &str) -> Option<Timing> {
-        let (mut whole, mut empty, mut net) = (vec![], vec![], vec![]);
+    /// The medians of several runs, each beside an empty one and the library's call; nothing if one
+    /// passes the timeout.
+    pub fn time(&self, text: &str, library: Call) -> Option<Timing> {
+        let mut library = Contender::new(library);
+        let (mut whole, mut empty, mut over, mut over_net) = (vec![], vec![], vec![], vec![]);
         while whole.len() < FEW || (whole.len() < RUNS && whole[0] < LONG) {
             let start = self.run(EMPTY, false, Stdio::null()).expect("an empty run has an end");
             let run = self.run(text, false, Stdio::null())?;
+            let call = library.sample() / 1e3;
             whole.push(run);
             empty.push(start);
-            net.push(run - start);
+            over.push(run / call);
+            over_net.push((run - start).max(0.0) / call);
         }
-        Some(Timing { whole: median(whole), empty: median(empty), net: median(net).max(0.0) })
+        Some(Timing { whole: median(whole), empty: median(empty), over: median(over), over_net: median(over_net) })
     }
 
     /// The automaton as MONA prints it; nothing after the timeout.

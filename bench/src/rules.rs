@@ -3,13 +3,14 @@
 
 use crate::aims::Aims;
 use crate::cells;
-use crate::compare::{automaton_of, check_rule, time_rule};
+use crate::compare::{automaton_of, check_rule};
 use crate::inputs::Rule;
 use crate::language::Held;
 use crate::library::Library;
 use crate::outside::Runs;
 use crate::process::{Timing, TIMEOUT};
 use crate::table::{code, short, Table};
+use crate::timed::time_rule;
 use solver::automaton::{build, Automaton};
 use solver::reader::read;
 use solver::wording::Wording;
@@ -43,12 +44,11 @@ fn automaton(rule: &Rule, library: Option<Library>) -> Automaton {
 }
 
 /// MONA's cells: states, milliseconds, and how many times as long as the library.
-fn mona_cells(held: Option<Held>, timing: Option<Timing>, library: f64) -> Vec<String> {
+fn mona_cells(held: Option<Held>, timing: Option<Timing>) -> Vec<String> {
     let (Some(held), Some(timing)) = (held, timing) else {
         return cells!["", format!("> {}000", TIMEOUT.as_secs()), "", ""];
     };
-    let over = |milliseconds: f64| short(milliseconds * 1e3 / library);
-    cells![held.classes + 1, short(timing.whole), over(timing.whole), over(timing.net)]
+    cells![held.classes + 1, short(timing.whole), short(timing.over), short(timing.over_net)]
 }
 
 /// One rule's row; `large` rules have an aim against MONA too.
@@ -71,9 +71,9 @@ fn row(rule: &Rule, mona: Option<&mut Runs>, large: bool, aims: &mut Aims) -> Ve
     let held = mona.check(rule, &ours);
     let timing = mona.time(rule);
     if let (true, Some(held), Some(timing)) = (large, held, timing) {
-        aims.mona(&name, fair.library, timing, ours.n(), held.classes);
+        aims.mona(&name, timing, ours.n(), held.classes);
     }
-    cells.extend(mona_cells(held, timing, fair.library));
+    cells.extend(mona_cells(held, timing));
     cells
 }
 

@@ -6,9 +6,11 @@
 //! crowd  hangs on the end of the chain, so that every pass looks at all of it
 //!
 //! With h heads, c chain states and w in the crowd a run looks at about h * c * (w + c / 2) states.
-//! In fair mode no automaton asks for more than h = n / 3 and no crowd do, 2/27 of n cubed: the
-//! first state of each outer rank falls in the first pass of all rounds before. In stable mode a
-//! ladder has every state both in the chain and as a head, a sixth of n cubed, which is the bound.
+//! `longest` is made for many looks: in fair mode h = n / 3 and no crowd, about 2/27 of n cubed; in
+//! stable mode a ladder, in which every state is both chain and head, about a sixth of n cubed.
+//! These are not exact maxima: a hill climb found half as many again (fair, n = 16: 466 for 307)
+//! and a little more (stable, n = 16: 752 for 697). That they lead for large n is an argument on
+//! paper only. `crowded` has the worst ratio to the solver among the heads and chains of a grid.
 //! Every look is long: an input is served by its last output alone, and the last input decides.
 
 use solver::calls::Given;
@@ -103,7 +105,7 @@ impl Shape {
     }
 }
 
-/// The automaton with the most looks.
+/// An automaton made for many looks.
 pub fn longest(mode: Mode, n: usize, i: usize, o: usize) -> Given {
     let shape = Shape { n, heads: n / 3, chain: n - 2 - n / 3 };
     match mode {
@@ -112,7 +114,7 @@ pub fn longest(mode: Mode, n: usize, i: usize, o: usize) -> Given {
     }
 }
 
-/// The automaton on which a solver with sets of successors gains most, as far as a search found.
+/// An automaton made for a bad ratio to a solver that has sets of successors.
 pub fn crowded(mode: Mode, n: usize, i: usize, o: usize) -> Given {
     let shape = Shape { n, heads: n / 8, chain: n / 4 };
     match mode {

@@ -1,0 +1,18 @@
+//! README: links libcapi.a, whose directory is in CAPI_LIB_DIR, to the program `bench`.
+//!
+//! The archive goes to the linker as a plain argument: a library without std has a panic handler
+//! of its own, and with double definitions allowed the first one found, that of std, is kept.
+
+/// Reads CAPI_LIB_DIR and hands the archive to the linker.
+fn main() {
+    println!("cargo:rerun-if-env-changed=CAPI_LIB_DIR");
+    println!("cargo:rerun-if-changed=build.rs");
+    let Ok(dir) = std::env::var("CAPI_LIB_DIR") else {
+        println!("cargo:warning=CAPI_LIB_DIR is not set: bench can be checked but not linked");
+        return;
+    };
+    let archive = std::path::Path::new(&dir).join("libcapi.a");
+    println!("cargo:rerun-if-changed={}", archive.display());
+    println!("cargo:rustc-link-arg-bins=-Wl,--allow-multiple-definition");
+    println!("cargo:rustc-link-arg-bins={}", archive.display());
+}

@@ -1,0 +1,102 @@
+//! README: the two solving calls of include/airtable.h, with buffers that are kept from call to
+//! call, so that nothing is allocated while a call is timed.
+
+use solver::calls::Given;
+use solver::Mode;
+
+#[rustfmt::skip]
+extern "C" {
+    fn airtable_solve_rule(
+        i: usize, o: usize, mode: u8,
+        rule: *const u8, rule_length: usize, condition: *const u8, condition_length: usize,
+        moves: *mut u8, moves_length: usize, marks: *mut u8, marks_length: usize,
+        station: *mut u8, station_length: usize, outside: *mut u8, outside_length: usize,
+        can: *mut u8, n: *mut usize, place: *mut usize,
+    ) -> u8;
+    fn airtable_solve_given(
+        i: usize, o: usize, mode: u8, n: usize,
+        moves: *const u8, moves_length: usize, marks: *const u8, marks_length: usize,
+        start: usize, mask: u16,
+        station: *mut u8, station_length: usize, outside: *mut u8, outside_length: usize,
+        can: *mut u8, place: *mut usize,
+    ) -> u8;
+}
+
+/// The lent buffers, with what the last call handed back.
+pub struct Library {
+    pub moves: Vec<u8>,
+    pub marks: Vec<u8>,
+    pub station: Vec<u8>,
+    pub outside: Vec<u8>,
+    pub number: u8,
+    pub can: u8,
+    pub n: usize,
+}
+
+/// The mode as the header's number.
+fn mode_byte(mode: Mode) -> u8 {
+    match mode {
+        Mode::Fair => 0,
+        Mode::Stable => 1,
+    }
+}
+
+impl Library {
+    /// Buffers of exactly the share that i and o ask for.
+    pub fn new(i: usize, o: usize) -> Library {
+        let (moves, station) = (vec![0; 128 << (i + o)], vec![0; 128 << i]);
+        Library { moves, marks: vec![0; 128], station, outside: vec![0; 128], number: 0, can: 0, n: 0 }
+    }
+
+    /// The call for a rule.
+    pub fn solve_rule(&mut self, i: usize, o: usize, mode: Mode, rule: &[u8], condition: &[u8]) {
+        let mut place = 0;
+        self.number = unsafe {
+            airtable_solve_rule(
+                i,
+                o,
+                mode_byte(mode),
+                rule.as_ptr(),
+                rule.len(),
+                condition.as_ptr(),
+                condition.len(),
+                self.moves.as_mut_ptr(),
+                self.moves.len(),
+                self.marks.as_mut_ptr(),
+                self.marks.len(),
+                self.station.as_mut_ptr(),
+                self.station.len(),
+                self.outside.as_mut_ptr(),
+                self.outside.len(),
+                &mut self.can,
+                &mut self.n,
+                &mut place,
+            )
+        };
+    }
+
+    /// The call for a given automaton.
+    pub fn solve_given(&mut self, i: usize, o: usize, mode: Mode, given: &Given) {
+        let mut place = 0;
+        self.number = unsafe {
+            airtable_solve_given(
+                i,
+                o,
+                mode_byte(mode),
+                given.n,
+                given.moves.as_ptr(),
+                given.moves.len(),
+                given.marks.as_ptr(),
+                given.marks.len(),
+                given.start,
+                given.mask,
+                self.station.as_mut_ptr(),
+                self.station.len(),
+                self.outside.as_mut_ptr(),
+                self.outside.len(),
+                &mut self.can,
+                &mut place,
+            )
+        };
+    }
+}

@@ -1,6 +1,7 @@
 #!/usr/bin/env bash
 # The test run: proves every crate from nothing, tries the must-fail edits and runs the programs; then the independent
 # solver's own tests, the comparison of the C interface and of the program airtable with it, the examples, and the one in C.
+# The benchmarks (bench/run) are built and not run: nothing here is timed.
 # Its last line is rt ci's 'N passed, 0 failed', printed only when everything else passed too.
 set -euo pipefail
 cd "$(dirname "$0")"
@@ -18,8 +19,11 @@ for rule in examples/*.rule; do
     (ulimit -s 256 && ./airtable "$rule") | diff "${rule%.rule}.listing" -
 done
 deep=$(printf '%127s' | tr ' ' '(')a$(printf '%127s' | tr ' ' ')')
-(ulimit -s 256 && printf '1 0\nfair\n1\n%s\n' "$deep" | ./airtable) | diff <(printf '1 0\nfair\n1\na\n' | ./airtable) -
+(ulimit -s 256 && printf '1 0\nfair\n1\n%s\n' "$deep" | env -i target/bin/airtable) | diff <(printf '1 0\nfair\n1\na\n' | ./airtable) -
 echo "examples/*.rule and the deepest text: as expected, with a stack of 256 KB"
+
+(cd bench && cargo build --release --offline --quiet)
+echo "bench: built"
 
 cc -std=c99 -pedantic -Wall -Wextra -Werror -Iinclude examples/follow.c target/staticlib/libcapi.a -o target/follow
 target/follow < examples/follow.input | diff examples/follow.expected -

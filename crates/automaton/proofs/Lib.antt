@@ -9,6 +9,7 @@ pub mod PositionLaws
 pub mod DiscoveryLaws
 pub mod Reachable
 pub mod ExplorationLaws
+pub mod TwinLaws
 pub mod AutomatonLaws
 pub mod FirstOverLaws
 pub mod ReadLaws

@@ -20,3 +20,11 @@ pub record Represents (nodes : List ℕ) (m : ℕ) (φ : Formula) : Type 0 where
 -- entry a * 64 + v of the table is the valuation that letter a makes from v
 unfoldable pub Tabulates : Formula → ℕ → List ℕ → Type 0
 Tabulates φ L table = (a v : ℕ) → a < L → v < vectors φ → getD table (a * 64 + v) 0 ≡ present φ a v
+
+-- the first m entries of two letters' rows are equal
+abbrev pub SameRow : List ℕ → ℕ → ℕ → ℕ → Type 0
+SameRow table m a b = (v : ℕ) → v < m → getD table (a * 64 + v) 0 ≡ getD table (b * 64 + v) 0
+
+-- each letter's twin is the letter itself or an earlier one whose row has the same first m entries
+unfoldable pub Twins : ℕ → ℕ → List ℕ → List ℕ → Type 0
+Twins L m table twins = (a : ℕ) → a < L → (getD twins a 0 ≤ a) × SameRow table m (getD twins a 0) a

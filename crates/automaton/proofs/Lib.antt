@@ -4,6 +4,7 @@ pub mod ArrayLaws
 pub mod StepLaws
 pub mod ValuationLaws
 pub mod Meaning
+pub mod PairLaws
 pub mod SuccessorLaws
 pub mod PositionLaws
 pub mod DiscoveryLaws

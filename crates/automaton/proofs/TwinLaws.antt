@@ -4,7 +4,7 @@ use Prim.Native.Nat.{ℕ, suc, _+_, _*_, _/_, _%_, _^_, _≤_, _<_}
 use mathlib.Core.Path.{_≡_, refl, sym, ap, ap₂, _∙_, subst}
 use mathlib.Core.List.{List}
 use native.Mathlib.Numerals.{add-one}
-use native.Mathlib.Nat.{not-suc-le-zero}
+use native.Mathlib.Nat.{not-suc-le-zero, pow-suc}
 use native.Mathlib.Omega.{arith}
 use borrow.Author.Count.{below-more}
 use lib.Arith.{digits-div, digits-mod}
@@ -18,6 +18,7 @@ use Rattle.automaton.specs.Discovery.{position, discovered, target}
 use Rattle.automaton.specs.Representation.{Tabulates, SameRow, Twins}
 use Rattle.automaton.specs.Exploration.{Filled, Progress}
 use Rattle.automaton.proofs.BitLaws.{word-ext}
+use Rattle.automaton.proofs.PairLaws.{present-even}
 use Rattle.automaton.proofs.DiscoveryLaws.{looked, discovered-old, closed}
 use Rattle.automaton.proofs.ExplorationLaws.{filled-old, Letter, letter-more, letter-room}
 
@@ -34,12 +35,15 @@ twins-more m a b table twins all h small same =
     (subst (λ (x : ℕ). (x ≤ a) × SameRow table m x a) (sym (getD-set-same twins a b 0 h)) (small, same))
 
 -- letters with equal rows lead a state to the same state
-pub same-after : (φ : Formula) (L m a b state : ℕ) (table : List ℕ) → Tabulates φ L table → m ≡ 2 ^ suc (operators φ) → a < L → b < L → SameRow table m a b → after φ state a ≡ after φ state b
+pub same-after : (φ : Formula) (L m a b state : ℕ) (table : List ℕ) → Tabulates φ L table → m ≡ 2 ^ suc (operators φ) → a < L → b < L → SameRow table (m / 2) a b → after φ state a ≡ after φ state b
 unfolding Tabulates after vectors
 same-after φ L m a b state table tab e ha hb same =
-    word-ext (λ v. bit state (present φ a v)) (λ v. bit state (present φ b v)) (2 ^ suc (operators φ)) (λ v l. ap (bit state) (sym (tab a v ha l) ∙ same v (omega arith) ∙ tab b v hb l))
+    word-ext (λ v. bit state (present φ a v)) (λ v. bit state (present φ b v)) (2 ^ suc (operators φ)) (λ v l.
+    let h : 2 * (v / 2) < 2 ^ suc (operators φ) = omega arith in
+    let q : v / 2 < m / 2 = omega (arith, pow-suc 2 (operators φ)) in
+    ap (bit state) (sym (present-even φ a v) ∙ sym (tab a (v / 2) ha h) ∙ same (v / 2) q ∙ tab b (v / 2) hb h ∙ present-even φ b v))
 
-pub twin-after : (φ : Formula) (L m a b state : ℕ) (table twins : List ℕ) → Tabulates φ L table → m ≡ 2 ^ suc (operators φ) → Twins L m table twins → a < L → b ≡ getD twins a 0 → after φ state b ≡ after φ state a
+pub twin-after : (φ : Formula) (L m a b state : ℕ) (table twins : List ℕ) → Tabulates φ L table → m ≡ 2 ^ suc (operators φ) → Twins L (m / 2) table twins → a < L → b ≡ getD twins a 0 → after φ state b ≡ after φ state a
 unfolding Twins
 twin-after φ L m a b state table twins tab e twin ha is =
     ap (after φ state) is ∙ same-after φ L m (getD twins a 0) a state table tab e (let q = twin a ha .0 in omega arith) ha (twin a ha .1)

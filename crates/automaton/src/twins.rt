@@ -19,45 +19,45 @@ pub(crate) fn wide(b: u8) -> usize
 }
 
 // Whether the rows of two letters are equal.
-fn same_row(table: &[u8; 16384], vectors: usize, a: usize, b: usize) -> bool
-    requires { ⌜ (vectors ≤ 64) × (a < 256) × (b < 256) ⌝ }
-    ensures { λ r. ⌜ (r ≡ true → SameRow (now (table .entry)) vectors a b) ⌝ }
+fn same_row(table: &[u8; 8192], entries: usize, a: usize, b: usize) -> bool
+    requires { ⌜ (entries ≤ 32) × (a < 256) × (b < 256) ⌝ }
+    ensures { λ r. ⌜ (r ≡ true → SameRow (now (table .entry)) entries a b) ⌝ }
 {
-    let left = a * 64;
-    let right = b * 64;
-    let mut v: usize = 0;
-    while v < vectors {
-        if table[left + v] != table[right + v] {
+    let left = a * 32;
+    let right = b * 32;
+    let mut k: usize = 0;
+    while k < entries {
+        if table[left + k] != table[right + k] {
             return false;
         }
-        v += 1;
+        k += 1;
     }
     true
 }
 
 // The slot of a letter, which is made of its row: equal rows have the same slot, and different ones mostly different slots.
-fn slot_of(table: &[u8; 16384], vectors: usize, letter: usize) -> usize
-    requires { ⌜ (vectors ≤ 64) × (letter < 256) ⌝ }
+fn slot_of(table: &[u8; 8192], entries: usize, letter: usize) -> usize
+    requires { ⌜ (entries ≤ 32) × (letter < 256) ⌝ }
     ensures { λ r. ⌜ r < 1021 ⌝ }
 {
-    let row = letter * 64;
+    let row = letter * 32;
     let mut key: usize = 0;
-    let mut v: usize = 0;
-    while v < vectors {
-        let entry = table[row + v] % 64;
+    let mut k: usize = 0;
+    while k < entries {
+        let entry = table[row + k] % 64;
         key = (key % KEYS) * 127 + entry as usize;
-        v += 2;
+        k += 1;
     }
     key % SLOTS
 }
 
 // The letter b, if it is smaller and has the same row, and else the letter itself.
-fn twin_of(table: &[u8; 16384], vectors: usize, letter: usize, b: usize) -> usize
-    requires { ⌜ (vectors ≤ 64) × (letter < 256) ⌝ }
-    ensures { λ r. ⌜ (r ≤ letter) × SameRow (now (table .entry)) vectors r letter ⌝ }
+fn twin_of(table: &[u8; 8192], entries: usize, letter: usize, b: usize) -> usize
+    requires { ⌜ (entries ≤ 32) × (letter < 256) ⌝ }
+    ensures { λ r. ⌜ (r ≤ letter) × SameRow (now (table .entry)) entries r letter ⌝ }
 {
     if b < letter {
-        if same_row(table, vectors, b, letter) {
+        if same_row(table, entries, b, letter) {
             return b;
         }
     }
@@ -66,19 +66,19 @@ fn twin_of(table: &[u8; 16384], vectors: usize, letter: usize, b: usize) -> usiz
 
 // Sets each letter's twin. A slot holds the last letter that was its own twin there.
 fn fill_twins(
-    table: &[u8; 16384],
-    vectors: usize,
+    table: &[u8; 8192],
+    entries: usize,
     letters: usize,
     slots: &mut [u8],
     twins: &mut [u8],
 )
-    requires { ⌜ (vectors ≤ 64) × (letters ≤ 256) × (1021 ≤ length (now slots)) × (letters ≤ length (now twins)) ⌝ }
-    ensures { λ r. ⌜ Twins letters vectors (now (table .entry)) (now (twins .exit)) ⌝ }
+    requires { ⌜ (entries ≤ 32) × (letters ≤ 256) × (1021 ≤ length (now slots)) × (letters ≤ length (now twins)) ⌝ }
+    ensures { λ r. ⌜ Twins letters entries (now (table .entry)) (now (twins .exit)) ⌝ }
 {
     let mut a: usize = 0;
     while a < letters {
-        let k = slot_of(table, vectors, a);
-        let b = twin_of(table, vectors, a, wide(slots[k]));
+        let k = slot_of(table, entries, a);
+        let b = twin_of(table, entries, a, wide(slots[k]));
         slots[k] = b as u8;
         twins[a] = b as u8;
         a += 1;
@@ -86,12 +86,12 @@ fn fill_twins(
 }
 
 // Each letter's twin: a letter with the same row, which is earlier where one was found and else the letter itself.
-pub(crate) fn find_twins(table: &[u8; 16384], vectors: usize, letters: usize) -> [u8; 256]
-    requires { ⌜ (vectors ≤ 64) × (letters ≤ 256) ⌝ }
-    ensures { λ r. ⌜ Twins letters vectors (now (table .entry)) r ⌝ }
+pub(crate) fn find_twins(table: &[u8; 8192], entries: usize, letters: usize) -> [u8; 256]
+    requires { ⌜ (entries ≤ 32) × (letters ≤ 256) ⌝ }
+    ensures { λ r. ⌜ Twins letters entries (now (table .entry)) r ⌝ }
 {
     let mut slots = [0u8; SLOTS];
     let mut twins = [0u8; 256];
-    fill_twins(table, vectors, letters, &mut slots, &mut twins);
+    fill_twins(table, entries, letters, &mut slots, &mut twins);
     twins
 }

@@ -7,7 +7,7 @@ use borrow.Author.Needs.{needs}
 use Rattle.reader.specs.Formula.{Formula, operators}
 use Rattle.automaton.specs.Representation.{Tabulates}
 use Rattle.automaton.specs.Exploration.{Explored}
-use Rattle.automaton.proofs.BitLaws.{one-shifted}
+use Rattle.automaton.proofs.BitLaws.{one-shifted, half-few}
 use Rattle.automaton.proofs.AutomatonLaws.{built-within, built-beyond, vectors-shifted, start-made}
 use Rattle.automaton.proofs.explore.build.Statement.{statement}
 use Rattle.automaton.proofs.explore.build.Tie as tie
@@ -41,7 +41,7 @@ clear-requires c κs = search needs
 find-twins-requires : tie.Need-find-twins-requires
 find-twins-requires c κs =
     let s = c .before .before .before .before .before .before .before in
-    (rw (one-shifted (s .args .width) (s .pre .1)) (pow-mono (s .pre .1)), s .pre .4)
+    (half-few (s .args .width) (s .pre .1), s .pre .4)
 
 slice-aggregate-explore : tie.Need-slice-aggregate-explore
 slice-aggregate-explore c = search needs

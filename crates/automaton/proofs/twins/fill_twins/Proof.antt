@@ -11,11 +11,11 @@ use Rattle.automaton.proofs.twins.fill_twins.Statement.{statement}
 use Rattle.automaton.proofs.twins.fill_twins.Tie as tie
 
 abbrev Inv-loop : tie.InvT-loop
-Inv-loop table vectors letters slots₀ twins₀ a₀ slots twins a =
-    (a ≤ letters) × (length slots ≡ length slots₀) × (length twins ≡ length twins₀) × Twins a vectors table twins
+Inv-loop table entries letters slots₀ twins₀ a₀ slots twins a =
+    (a ≤ letters) × (length slots ≡ length slots₀) × (length twins ≡ length twins₀) × Twins a entries table twins
 
 abbrev μ-loop : tie.MeasureT-loop
-μ-loop table vectors letters slots₀ twins₀ a₀ slots twins a = letters - a
+μ-loop table entries letters slots₀ twins₀ a₀ slots twins a = letters - a
 
 loop-holds : tie.Need-loop-holds Inv-loop μ-loop
 loop-holds c = (omega arith, refl, refl, twins-none _ _ _)
@@ -58,7 +58,7 @@ loop-again c =
       omega arith,
       simp length-set (inv .1),
       simp length-set (inv .2),
-      twins-more (z .args .vectors) (at .loop .a) (c .twin-of .result) (z .args .table .now) (at .loop .twins) (inv .3) (omega arith) (c .twin-of .ensures .0) (c .twin-of .ensures .1),
+      twins-more (z .args .entries) (at .loop .a) (c .twin-of .result) (z .args .table .now) (at .loop .twins) (inv .3) (omega arith) (c .twin-of .ensures .0) (c .twin-of .ensures .1),
     )
 
 same-length : tie.Need-same-length Inv-loop μ-loop
@@ -72,7 +72,7 @@ returns c =
     let at = c .before in
     let z = at .before .before .before .args in
     let all : at .loop .a ≡ z .letters = omega arith in
-    subst (λ (m : ℕ). Twins m (z .vectors) (z .table .now) (at .loop .twins)) all (at .loop .inv .3)
+    subst (λ (m : ℕ). Twins m (z .entries) (z .table .now) (at .loop .twins)) all (at .loop .inv .3)
 
 pub fill-twins-spec : {M : Type 1} → statement M
 fill-twins-spec =

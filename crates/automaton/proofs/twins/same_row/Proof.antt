@@ -1,4 +1,4 @@
--- `automaton::twins::same_row` meets its contract. The invariant: the first v entries are equal. The measure is what is left of them.
+-- `automaton::twins::same_row` meets its contract. The invariant: the first k entries are equal. The measure is what is left of them.
 -- Assumes nothing.
 use Prim.Native.Nat.{_-_, _≤_}
 use mathlib.Core.Path.{sym}
@@ -12,10 +12,10 @@ use Rattle.automaton.proofs.twins.same_row.Statement.{statement}
 use Rattle.automaton.proofs.twins.same_row.Tie as tie
 
 abbrev Inv-loop : tie.InvT-loop
-Inv-loop table vectors a b left right v₀ v = (v ≤ vectors) × SameRow table v a b
+Inv-loop table entries a b left right k₀ k = (k ≤ entries) × SameRow table k a b
 
 abbrev μ-loop : tie.MeasureT-loop
-μ-loop table vectors a b left right v₀ v = vectors - v
+μ-loop table entries a b left right k₀ k = entries - k
 
 mul-left : tie.Need-mul-left Inv-loop μ-loop
 mul-left c = search needs
@@ -24,7 +24,7 @@ mul-right : tie.Need-mul-right Inv-loop μ-loop
 mul-right c = search needs
 
 loop-holds : tie.Need-loop-holds Inv-loop μ-loop
-loop-holds c = (omega arith, λ v l. absurd (not-suc-le-zero l))
+loop-holds c = (omega arith, λ k l. absurd (not-suc-le-zero l))
 
 add-if1 : tie.Need-add-if1 Inv-loop μ-loop
 add-if1 c = search needs
@@ -41,8 +41,8 @@ element-copy-out-if1-2 c = search needs
 returns : tie.Need-returns Inv-loop μ-loop
 returns c e = absurd (true≢false (sym e))
 
-add-v : tie.Need-add-v Inv-loop μ-loop
-add-v c = search needs
+add-k : tie.Need-add-k Inv-loop μ-loop
+add-k c = search needs
 
 loop-less : tie.Need-loop-less Inv-loop μ-loop
 loop-less c = search needs
@@ -51,7 +51,7 @@ loop-again : tie.Need-loop-again Inv-loop μ-loop
 loop-again c = (omega arith, below-more _ _ (c .before .before .before .before .loop .inv .1) (c .if1 .left))
 
 returns-2 : tie.Need-returns-2 Inv-loop μ-loop
-returns-2 c e v l = c .before .loop .inv .1 v (omega arith)
+returns-2 c e k l = c .before .loop .inv .1 k (omega arith)
 
 pub same-row-spec : {M : Type 1} → statement M
 same-row-spec =
@@ -67,7 +67,7 @@ same-row-spec =
     add-if1-2
     element-copy-out-if1-2
     returns
-    add-v
+    add-k
     loop-less
     loop-again
     returns-2)

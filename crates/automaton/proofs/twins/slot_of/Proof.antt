@@ -1,15 +1,15 @@
 -- `automaton::twins::slot_of` meets its contract: any key has a slot. The measure is what is left of the row. Assumes nothing.
-use Prim.Native.Nat.{_+_, _-_, _≤_}
+use Prim.Native.Nat.{_-_, _≤_}
 use native.Mathlib.Omega.{arith}
 use borrow.Author.Needs.{needs}
 use Rattle.automaton.proofs.twins.slot_of.Statement.{statement}
 use Rattle.automaton.proofs.twins.slot_of.Tie as tie
 
 abbrev Inv-loop : tie.InvT-loop
-Inv-loop table vectors letter row key₀ v₀ key v = v ≤ vectors + 1
+Inv-loop table entries letter row key₀ k₀ key k = k ≤ entries
 
 abbrev μ-loop : tie.MeasureT-loop
-μ-loop table vectors letter row key₀ v₀ key v = vectors + 1 - v
+μ-loop table entries letter row key₀ k₀ key k = entries - k
 
 mul-row : tie.Need-mul-row Inv-loop μ-loop
 mul-row c = search needs
@@ -32,8 +32,8 @@ cast-key c = search needs
 add-key : tie.Need-add-key Inv-loop μ-loop
 add-key c = search needs
 
-add-v : tie.Need-add-v Inv-loop μ-loop
-add-v c = search needs
+add-k : tie.Need-add-k Inv-loop μ-loop
+add-k c = search needs
 
 loop-less : tie.Need-loop-less Inv-loop μ-loop
 loop-less c = search needs
@@ -57,7 +57,7 @@ slot-of-spec =
     mul-key
     cast-key
     add-key
-    add-v
+    add-k
     loop-less
     loop-again
     returns)

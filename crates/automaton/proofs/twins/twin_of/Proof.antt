@@ -12,10 +12,10 @@ returns : tie.Need-returns
 returns c = (omega arith, c .before .same-row .ensures (c .if2 .taken))
 
 returns-2 : tie.Need-returns-2
-returns-2 c = (omega arith, λ v l. refl)
+returns-2 c = (omega arith, λ k l. refl)
 
 returns-3 : tie.Need-returns-3
-returns-3 c = (omega arith, λ v l. refl)
+returns-3 c = (omega arith, λ k l. refl)
 
 pub twin-of-spec : {M : Type 1} → statement M
 twin-of-spec = tie.close (tie.spec same-row-requires returns returns-2 returns-3)

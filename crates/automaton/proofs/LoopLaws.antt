@@ -4,14 +4,13 @@ use mathlib.Core.Path.{_≡_, refl, sym, ap, _∙_, subst}
 use mathlib.Core.Bool.{Bool, true, false}
 use mathlib.Core.List.{List, _∷_}
 use mathlib.Core.Logic.{⊎-elim}
-use native.Mathlib.Nat.{eq-or-lt-of-le, lt-of-lt-of-le, pow-suc, mul-comm}
+use native.Mathlib.Nat.{eq-or-lt-of-le, pow-suc, mul-comm}
 use native.Mathlib.Omega.{arith}
 use native.Mathlib.Numerals.{add-one}
 use borrow.Author.Count.{below-more}
 use lib.Arith.{digits-lt}
 use lib.Dec.{eqb}
 use lib.ListN.{getD, length, set, drop}
-use lib.Pow.{pow-mono}
 use lib.Seq.{getD-set-same, getD-set-other, drop-cons}
 use Rattle.reader.specs.Formula.{Formula, operators}
 use Rattle.automaton.specs.Bits.{one}

@@ -1,7 +1,7 @@
 -- Twins (specs/Representation.antt): letters with equal rows in the table lead every state to the same state, so that the exploration
 -- copies a twin's step. The steps of one state s are numbered s * L + a. Assumes nothing.
-use Prim.Native.Nat.{ℕ, suc, _+_, _*_, _/_, _%_, _^_, _≤_, _<_}
-use mathlib.Core.Path.{_≡_, refl, sym, ap, ap₂, _∙_, subst}
+use Prim.Native.Nat.{ℕ, suc, _+_, _*_, _/_, _^_, _≤_, _<_}
+use mathlib.Core.Path.{_≡_, sym, ap, ap₂, _∙_, subst}
 use mathlib.Core.List.{List}
 use native.Mathlib.Numerals.{add-one}
 use native.Mathlib.Nat.{not-suc-le-zero, pow-suc}
@@ -11,7 +11,7 @@ use lib.Arith.{digits-div, digits-mod}
 use lib.ListN.{getD, length, set}
 use lib.Seq.{length-take-le, getD-set-same, getD-set-other}
 use Rattle.reader.specs.Formula.{Formula, operators}
-use Rattle.automaton.specs.Bits.{bit, word}
+use Rattle.automaton.specs.Bits.{bit}
 use Rattle.automaton.specs.Valuation.{present, vectors}
 use Rattle.automaton.specs.State.{after}
 use Rattle.automaton.specs.Discovery.{position, discovered, target}

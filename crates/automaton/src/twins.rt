@@ -8,7 +8,7 @@ ghost use Rattle.automaton.specs.Representation.{SameRow, Twins};
 // The number of slots.
 const SLOTS: usize = 1021;
 
-// The number of keys, 2^56, of which a slot is made.
+// What is kept of a key, so that one more entry fits into the word: 56 bits.
 const KEYS: usize = 0x100_0000_0000_0000;
 
 // A byte as an index.

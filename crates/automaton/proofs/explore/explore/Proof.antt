@@ -1,7 +1,7 @@
 -- `automaton::explore::explore` meets its contract. The invariant: after s states the first n of the list are the states discovered, the
 -- transitions of the first s are theirs, and the transitions from there on are as they were. The measure is what is left of 128 states.
 -- Assumes nothing.
-use Prim.Native.Nat.{ℕ, suc, _-_, _+_, _*_, _^_, _≤_, _<_}
+use Prim.Native.Nat.{ℕ, suc, _-_, _+_, _*_, _^_, _≤_}
 use mathlib.Core.Path.{_≡_, refl, sym, ap, _∙_, subst}
 use mathlib.Core.List.{List}
 use native.Mathlib.Nat.{zero-mul, add-mul, mul-le-mul-right}

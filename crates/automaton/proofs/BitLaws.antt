@@ -127,6 +127,10 @@ bit-gather bs k h = bit-word (λ j. getD bs j false) (length bs) k h
 pub set-shifted : (x k b : ℕ) → k < 64 → b < 2 → x < 2 ^ k → bitOr x (b * 2 ^ k % 2 ^ 64) ≡ b * 2 ^ k + x
 set-shifted x k b hk hb hx = ap (bitOr x) (shl-exact 1 k 64 hb (omega arith)) ∙ or-shifted-r b k x hx
 
+-- `x | ((3 * b) << (2 * k))`, for an x with bits below 2 * k only
+pub set-pair-shifted : (x k b : ℕ) → k < 32 → b < 2 → x < 2 ^ (2 * k) → bitOr x (3 * b * 2 ^ (2 * k) % 2 ^ 64) ≡ 3 * b * 2 ^ (2 * k) + x
+set-pair-shifted x k b hk hb hx = ap (bitOr x) (shl-exact 2 (2 * k) 64 (omega arith) (omega arith)) ∙ or-shifted-r (3 * b) (2 * k) x hx
+
 none : (n : ℕ) → word (λ v. false) n ≡ 0
 unfolding word
 none zero = refl
@@ -140,6 +144,23 @@ no-coordinate j h = word-ext (λ v. bit v j) (λ v. false) 64 (λ v l. bit-high 
 pub word-step : (f : ℕ → Bool) (n x b : ℕ) → x ≡ word f n → b ≡ one (f n) → b * 2 ^ n + x ≡ word f (n + 1)
 unfolding word
 word-step f n x b ex eb = ap₂ (λ (y z : ℕ). y * 2 ^ n + z) eb ex ∙ ap (word f) (sym (add-one n))
+
+-- the same with two bits at once, where the bits 2 * k and 2 * k + 1 are both f k
+pub pair-step : (f : ℕ → Bool) (k x b : ℕ) → x ≡ word (λ v. f (v / 2)) (2 * k) → b ≡ one (f k) → 3 * b * 2 ^ (2 * k) + x ≡ word (λ v. f (v / 2)) (2 * (k + 1))
+unfolding word
+pair-step f k x b ex eb =
+    let low : 2 * k / 2 ≡ k = omega arith in
+    let high : suc (2 * k) / 2 ≡ k = omega arith in
+    let two : 2 * (k + 1) ≡ suc (suc (2 * k)) = omega arith in
+    let one-high : one (f (suc (2 * k) / 2)) ≡ b = ap (λ (i : ℕ). one (f i)) high ∙ sym eb in
+    let one-low : one (f (2 * k / 2)) ≡ b = ap (λ (i : ℕ). one (f i)) low ∙ sym eb in
+    let sum : 3 * b * 2 ^ (2 * k) + x ≡ b * 2 ^ suc (2 * k) + (b * 2 ^ (2 * k) + x) = triple b (2 * k) x in
+    sum
+    ∙ ap₂ (λ (y z : ℕ). y * 2 ^ suc (2 * k) + z) (sym one-high) (ap₂ (λ (y z : ℕ). y * 2 ^ (2 * k) + z) (sym one-low) ex)
+    ∙ ap (word (λ v. f (v / 2))) (sym two)
+  where
+    triple : (b n x : ℕ) → 3 * b * 2 ^ n + x ≡ b * 2 ^ suc n + (b * 2 ^ n + x)
+    triple b n x = omega (arith, mul-assoc 3 b (2 ^ n), mul-assoc b (2 ^ n) 2, ap (λ (m : ℕ). b * m) (pow-suc 2 n))
 
 all : (n : ℕ) → word (λ v. true) n + 1 ≡ 2 ^ n
 unfolding word
@@ -164,6 +185,17 @@ one-false false f = refl
 -- `1 << w`
 pub one-shifted : (w : ℕ) → w ≤ 6 → 1 * 2 ^ w % 2 ^ 64 ≡ 2 ^ w
 one-shifted w h = shl-exact 1 w 64 (omega arith) (omega arith) ∙ omega arith
+
+-- `(1 << w) / 2`
+pub half-few : (w : ℕ) → w ≤ 6 → 1 * 2 ^ w % 2 ^ 64 / 2 ≤ 32
+half-few w h =
+    let few : 2 ^ w ≤ 64 = pow-mono {i = w} {j = 6} h in
+    omega (arith, one-shifted w h)
+
+pub half-shifted : (w n : ℕ) → w ≤ 6 → w ≡ suc n → 1 * 2 ^ w % 2 ^ 64 / 2 ≡ 2 ^ n
+half-shifted w n h e =
+    let double : 2 ^ w ≡ 2 ^ n * 2 = ap (λ (i : ℕ). 2 ^ i) e ∙ pow-suc 2 n in
+    omega (arith, one-shifted w h)
 
 -- what stands from bit k on does not change the bits below it
 cut : (x y n k : ℕ) → k ≤ n → (x * 2 ^ n + y) % 2 ^ k ≡ y % 2 ^ k

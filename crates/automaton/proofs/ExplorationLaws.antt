@@ -4,15 +4,16 @@ use Prim.Native.Nat.{ℕ, suc, _+_, _-_, _*_, _/_, _%_, _≤_, _<_}
 use mathlib.Core.Path.{_≡_, refl, sym, ap, ap₂, _∙_, subst}
 use mathlib.Core.List.{List, [], _∷_, _++_}
 use native.Mathlib.Numerals.{add-one}
-use native.Mathlib.Nat.{mul-le-mul-right, not-suc-le-zero}
+use native.Mathlib.Nat.{add-mul, mul-le-mul-right, not-suc-le-zero}
 use native.Mathlib.Omega.{arith}
+use lib.Arith.{digits-lt, digits-div, digits-mod}
 use lib.ListN.{getD, length, take, set, length-append}
 use lib.Seq.{length-take-le, getD-take, take-suc-set}
 use Rattle.reader.specs.Formula.{Formula}
 use Rattle.automaton.specs.Limits.{stateLimit}
 use Rattle.automaton.specs.State.{start, after}
 use Rattle.automaton.specs.Discovery.{position, discovered, states, stateCount, target}
-use Rattle.automaton.specs.Exploration.{Filled, Explored}
+use Rattle.automaton.specs.Exploration.{Filled, Progress, Explored, StateExplored}
 use Rattle.automaton.proofs.ArrayLaws.{stored-more}
 use Rattle.automaton.proofs.PositionLaws.{position-le}
 use Rattle.automaton.proofs.DiscoveryLaws.{looked, discovered-old, discovered-new, discovered-grows, discovered-stays, quotient-lt, number-kept, number-new, closed}
@@ -23,7 +24,7 @@ module _ (φ : Formula) (L t p : ℕ) (pos : 0 < L) (transitions : List ℕ) (mo
   abbrev ws : List ℕ
   ws = discovered φ L t
 
-  filled-old : p ≡ position (looked φ L t) (discovered φ L t) → Filled φ L (discovered φ L t) (set transitions t p) (t + 1)
+  pub filled-old : p ≡ position (looked φ L t) (discovered φ L t) → Filled φ L (discovered φ L t) (set transitions t p) (t + 1)
   unfolding Filled
   filled-old e = stored-more (λ u. position (target φ L ws u) ws) transitions t p room e filled
 
@@ -35,11 +36,6 @@ module _ (φ : Formula) (L t p : ℕ) (pos : 0 < L) (transitions : List ℕ) (mo
       (λ u b. let l : u < length ws * L = omega arith in filled u b ∙ sym (number-kept φ L pos ws (looked φ L t) u l (closed φ L pos t u b l)))
 
 -- ---- the exploration's loop
-
--- after t steps the first n of the list are the states discovered, and the first t transitions are theirs
-pub record Progress (φ : Formula) (L n t : ℕ) (list transitions : List ℕ) : Type 0 where
-  pub front : take n list ≡ discovered φ L t
-  pub filled : Filled φ L (discovered φ L t) transitions t
 
 -- the numbers of step t, which finds x at position p of the n states
 pub record Turn (L n t x p : ℕ) (list transitions : List ℕ) : Type 0 where
@@ -133,3 +129,63 @@ turn-done φ L n t list transitions done h few all =
       words = λ q. done .front ∙ sym s;
       filled = λ q. subst (λ (m : ℕ). Filled φ L (discovered φ L most) transitions m) all (subst (λ (ws : List ℕ). Filled φ L ws transitions t) (sym s) (done .filled));
     }
+
+-- ---- the steps of one state: step s * L + a looks at letter a of state s
+
+-- the numbers at letter a of state s
+pub record Letter (L n s a : ℕ) (list transitions : List ℕ) : Type 0 where
+  pub letter : a < L
+  pub state : s < n
+  pub few : n ≤ stateLimit
+  pub long : n ≤ length list
+  pub room : stateLimit * L ≤ length transitions
+
+pub letter-more : (L n s a : ℕ) (list transitions : List ℕ) → Letter L n s a list transitions → s * L + a < n * L
+letter-more L n s a list transitions at = digits-lt (at .state) (at .letter)
+
+pub letter-room : (L n s a : ℕ) (list transitions : List ℕ) → Letter L n s a list transitions → s * L + a < length transitions
+letter-room L n s a list transitions at = omega (arith, letter-more L n s a list transitions at, mul-le-mul-right L (at .few), at .room)
+
+module _ (L n s a x p : ℕ) (list transitions : List ℕ) (at : Letter L n s a list transitions) (placed : p ≡ position x (take n list)) where
+  turn-of : Turn L n (s * L + a) x p list transitions
+  turn-of =
+      let l = at .letter in
+      record {
+        letters = omega arith;
+        few = at .few;
+        long = at .long;
+        room = letter-room L n s a list transitions at;
+        more = letter-more L n s a list transitions at;
+        placed = placed;
+      }
+
+  pub letter-position : p ≤ n
+  letter-position = turn-position L n (s * L + a) x p list transitions turn-of
+
+  module _ (φ : Formula) (next : x ≡ after φ (getD list s 0) a) (done : Progress φ L n (s * L + a) list transitions) where
+    next-at : x ≡ after φ (getD list ((s * L + a) / L) 0) ((s * L + a) % L)
+    next-at = next ∙ sym (ap₂ (λ (i j : ℕ). after φ (getD list i 0) j) (digits-div s (at .letter)) (digits-mod s (at .letter)))
+
+    pub letter-new : p ≡ n → n < length list → Progress φ L (n + 1) (s * L + (a + 1)) (set list n x) (set transitions (s * L + a) p)
+    letter-new new l =
+        let e : s * L + a + 1 ≡ s * L + (a + 1) = omega arith in
+        subst (λ (t : ℕ). Progress φ L (n + 1) t (set list n x) (set transitions (s * L + a) p)) e (turn-new φ L n (s * L + a) x p list transitions turn-of next-at done new l)
+
+    pub letter-old : (p ≡ n → ⊥) → Progress φ L n (s * L + (a + 1)) list (set transitions (s * L + a) p)
+    letter-old old =
+        let e : s * L + a + 1 ≡ s * L + (a + 1) = omega arith in
+        subst (λ (t : ℕ). Progress φ L n t list (set transitions (s * L + a) p)) e (turn-old φ L n (s * L + a) x p list transitions turn-of next-at done old)
+
+    pub letter-over : p ≡ n → n ≡ stateLimit → StateExplored φ L s (suc stateLimit) list transitions
+    letter-over new full =
+        record { within = λ q. absurd (let z : ⊥ = omega arith in z); beyond = λ q. turn-over φ L n (s * L + a) x p list transitions turn-of next-at done new full }
+
+-- after the last letter
+pub letters-done : (φ : Formula) (L n s a : ℕ) (list transitions : List ℕ) → Progress φ L n (s * L + a) list transitions → a ≡ L → n ≤ stateLimit → StateExplored φ L s n list transitions
+letters-done φ L n s a list transitions done all few =
+    record { within = λ q. subst (λ (i : ℕ). Progress φ L n (s * L + i) list transitions) all done; beyond = λ q. absurd (let z : ⊥ = omega arith in z) }
+
+pub next-state : (φ : Formula) (L s r : ℕ) (list transitions : List ℕ) → StateExplored φ L s r list transitions → r ≤ stateLimit → Progress φ L r ((s + 1) * L) list transitions
+next-state φ L s r list transitions done few =
+    let e : s * L + L ≡ (s + 1) * L = omega (arith, add-mul s 1 L) in
+    subst (λ (t : ℕ). Progress φ L r t list transitions) e (done .within few)

@@ -4,11 +4,13 @@ pub mod ArrayLaws
 pub mod StepLaws
 pub mod ValuationLaws
 pub mod Meaning
+pub mod PairLaws
 pub mod SuccessorLaws
 pub mod PositionLaws
 pub mod DiscoveryLaws
 pub mod Reachable
 pub mod ExplorationLaws
+pub mod TwinLaws
 pub mod AutomatonLaws
 pub mod FirstOverLaws
 pub mod ReadLaws

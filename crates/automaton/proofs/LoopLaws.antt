@@ -4,14 +4,13 @@ use mathlib.Core.Path.{_≡_, refl, sym, ap, _∙_, subst}
 use mathlib.Core.Bool.{Bool, true, false}
 use mathlib.Core.List.{List, _∷_}
 use mathlib.Core.Logic.{⊎-elim}
-use native.Mathlib.Nat.{eq-or-lt-of-le, lt-of-lt-of-le, pow-suc, mul-comm}
+use native.Mathlib.Nat.{eq-or-lt-of-le, pow-suc, mul-comm}
 use native.Mathlib.Omega.{arith}
 use native.Mathlib.Numerals.{add-one}
 use borrow.Author.Count.{below-more}
 use lib.Arith.{digits-lt}
 use lib.Dec.{eqb}
 use lib.ListN.{getD, length, set, drop}
-use lib.Pow.{pow-mono}
 use lib.Seq.{getD-set-same, getD-set-other, drop-cons}
 use Rattle.reader.specs.Formula.{Formula, operators}
 use Rattle.automaton.specs.Bits.{one}
@@ -27,19 +26,19 @@ row-more f l s i x h e all =
 pub front-more : (l l₀ : List ℕ) (s i x : ℕ) → ((k : ℕ) → k < s → getD l k 0 ≡ getD l₀ k 0) → (k : ℕ) → k < s → getD (set l (s + i) x) k 0 ≡ getD l₀ k 0
 front-more l l₀ s i x all k h = getD-set-other l (s + i) k x 0 (λ q. let z : ⊥ = omega arith in z) ∙ all k h
 
--- the rows below a, and then row a, with what is in front of it kept
-pub rows-more : (f : ℕ → ℕ → ℕ) (l l₀ : List ℕ) (a : ℕ) → ((b v : ℕ) → b < a → v < 64 → getD l₀ (b * 64 + v) 0 ≡ f b v) → ((v : ℕ) → v < 64 → getD l (a * 64 + v) 0 ≡ f a v) → ((k : ℕ) → k < a * 64 → getD l k 0 ≡ getD l₀ k 0) →
-    (b v : ℕ) → b < a + 1 → v < 64 → getD l (b * 64 + v) 0 ≡ f b v
-rows-more f l l₀ a old row front b v hb hv =
+-- the rows of m entries below a, and then row a, with what is in front of it kept
+pub rows-more : (m : ℕ) (f : ℕ → ℕ → ℕ) (l l₀ : List ℕ) (a : ℕ) → m ≤ 32 → ((b k : ℕ) → b < a → k < m → getD l₀ (b * 32 + k) 0 ≡ f b k) → ((k : ℕ) → k < m → getD l (a * 32 + k) 0 ≡ f a k) → ((k : ℕ) → k < a * 32 → getD l k 0 ≡ getD l₀ k 0) →
+    (b k : ℕ) → b < a + 1 → k < m → getD l (b * 32 + k) 0 ≡ f b k
+rows-more m f l l₀ a few old row front b k hb hk =
     ⊎-elim
-    (λ (q : b ≡ a). subst (λ (x : ℕ). getD l (x * 64 + v) 0 ≡ f x v) (sym q) (row v hv))
-    (λ (q : b < a). front (b * 64 + v) (omega arith) ∙ old b v q hv)
+    (λ (q : b ≡ a). subst (λ (x : ℕ). getD l (x * 32 + k) 0 ≡ f x k) (sym q) (row k hk))
+    (λ (q : b < a). front (b * 32 + k) (omega arith) ∙ old b k q hk)
     (eq-or-lt-of-le {n = b} {m = a} (omega arith))
 
 -- full rows hold what the table is asked for
-pub rows-tabulate : (φ : Formula) (L : ℕ) (l : List ℕ) → operators φ ≤ 5 → ((a v : ℕ) → a < L → v < 64 → getD l (a * 64 + v) 0 ≡ present φ a v) → Tabulates φ L l
+pub rows-tabulate : (φ : Formula) (L m : ℕ) (l : List ℕ) → m ≡ 2 ^ operators φ → ((a k : ℕ) → a < L → k < m → getD l (a * 32 + k) 0 ≡ present φ a (2 * k)) → Tabulates φ L l
 unfolding Tabulates vectors
-rows-tabulate φ L l few all a v ha hv = all a v ha (lt-of-lt-of-le hv (pow-mono {i = suc (operators φ)} {j = 6} (omega arith)))
+rows-tabulate φ L m l e all a k ha hk = all a k ha (omega (arith, pow-suc 2 (operators φ)))
 
 -- one more bit, whichever it is
 pub set-lt : (b x k : ℕ) → b < 2 → x < 2 ^ k → b * 2 ^ k + x < 2 ^ (k + 1)

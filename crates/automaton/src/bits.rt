@@ -18,3 +18,11 @@ pub(crate) fn set_bit(x: u64, k: u64, b: u64) -> u64
 {
     x | (b << k)
 }
+
+// x, which has only bits below 2 * k, with bits 2 * k and 2 * k + 1 set as b says.
+pub(crate) fn set_pair(x: u64, k: u64, b: u64) -> u64
+    requires { ⌜ (k < 32) × (b < 2) × (x < 2 ^ (2 * k)) ⌝ }
+    ensures { λ r. ⌜ r ≡ 3 * b * 2 ^ (2 * k) + x ⌝ }
+{
+    x | ((3 * b) << (2 * k))
+}

@@ -1,6 +1,6 @@
 // The states of a formula's automaton, in the order of their discovery.
 ghost use mathlib.Core.Path.{_≡_};
-ghost use Prim.Native.Nat.{ℕ, suc, _*_, _≤_, _<_, _^_};
+ghost use Prim.Native.Nat.{ℕ, suc, _+_, _*_, _/_, _≤_, _<_, _^_};
 ghost use lib.ListN.{length, getD, take};
 ghost use Rattle.reader.specs.Formula.{Formula, operators};
 ghost use Rattle.automaton.specs.Limits.{stateLimit};
@@ -8,29 +8,32 @@ ghost use Rattle.automaton.specs.Bits.{bit, one};
 ghost use Rattle.automaton.specs.Valuation.{endVector};
 ghost use Rattle.automaton.specs.State.{start, after};
 ghost use Rattle.automaton.specs.Discovery.{position};
-ghost use Rattle.automaton.specs.Representation.{Tabulates};
+ghost use Rattle.automaton.specs.Representation.{Tabulates, Twins};
 ghost use Rattle.automaton.specs.Automaton.{Cleared};
-ghost use Rattle.automaton.specs.Exploration.{Explored, BuiltAutomaton};
-use crate::bits::set_bit;
+ghost use Rattle.automaton.specs.Exploration.{Progress, Explored, StateExplored, BuiltAutomaton};
+use crate::bits::set_pair;
 use crate::bits::test_bit;
 use crate::coordinates::start_word;
+use crate::twins::find_twins;
+use crate::twins::wide;
 
 // The number of states that are served.
 const STATE_LIMIT: usize = 128;
 
-// The state after a letter: it holds v where the old one holds the valuation that the table has for the letter and v.
-fn successor(table: &[u8; 16384], letter: usize, vectors: u64, state: u64) -> u64
+// The state after a letter: it holds 2 * k and 2 * k + 1 where the old one holds the valuation that the table has for the letter and k.
+fn successor(table: &[u8; 8192], letter: usize, vectors: u64, state: u64) -> u64
     requires { ⌜ (letter < 256) × (vectors ≤ 64) ⌝ }
     ensures { λ r. ⌜ ((φ : Formula) (L : ℕ) → Tabulates φ L (now (table .entry)) → letter < L → vectors ≡ 2 ^ suc (operators φ) → r ≡ after φ state letter) ⌝ }
 {
-    let row = letter * 64;
+    let row = letter * 32;
+    let pairs = vectors / 2;
     let mut r: u64 = 0;
-    let mut v: u64 = 0;
-    while v < vectors {
-        let u = table[row + v as usize] % 64;
+    let mut k: u64 = 0;
+    while k < pairs {
+        let u = table[row + k as usize] % 64;
         let b = test_bit(state, u as u64);
-        r = set_bit(r, v, b);
-        v += 1;
+        r = set_pair(r, k, b);
+        k += 1;
     }
     r
 }
@@ -75,31 +78,39 @@ fn mark_states(list: &[u64], n: usize, end: u64, accepting: &mut [u8])
     }
 }
 
-// Finds the states in the order of discovery: they go into list, and where they lead into transitions. Returns their number, or 129
-// where there are more than 128.
-fn explore(
-    table: &[u8; 16384],
+// Looks at every letter of state s: the states that it finds go to the end of the list, and where the letters lead into transitions. A
+// letter with an earlier twin leads where the twin does. Returns the number of states, or 129 where there are more than 128.
+fn explore_state(
+    table: &[u8; 8192],
+    twins: &[u8; 256],
     vectors: u64,
     letters: usize,
-    first: u64,
+    s: usize,
+    count: usize,
     transitions: &mut [u8],
     list: &mut [u64],
 ) -> usize
-    requires { ⌜ (vectors ≤ 64) × (0 < letters) × (letters ≤ 256) × (stateLimit * letters ≤ length (now transitions)) × (stateLimit ≤ length (now list)) ⌝ }
-    ensures explored { λ r. ⌜ ((φ : Formula) → Tabulates φ letters (now (table .entry)) → vectors ≡ 2 ^ suc (operators φ) → first ≡ start φ → Explored φ letters r (now (list .exit)) (now (transitions .exit))) ⌝ }
-    ensures kept { λ r. ⌜ (r ≤ suc stateLimit) × ((u : ℕ) → stateLimit * letters ≤ u → getD (now (transitions .exit)) u 0 ≡ getD (now (transitions .entry)) u 0) × (r ≤ stateLimit → (u : ℕ) → r * letters ≤ u → getD (now (transitions .exit)) u 0 ≡ getD (now (transitions .entry)) u 0) ⌝ }
+    requires { ⌜ (vectors ≤ 64) × (letters ≤ 256) × Twins letters (vectors / 2) (now table) (now twins) × (s < count) × (count ≤ stateLimit) × (stateLimit * letters ≤ length (now transitions)) × (stateLimit ≤ length (now list)) ⌝ }
+    ensures explored { λ r. ⌜ ((φ : Formula) → Tabulates φ letters (now (table .entry)) → vectors ≡ 2 ^ suc (operators φ) → Progress φ letters count (s * letters) (now (list .entry)) (now (transitions .entry)) → StateExplored φ letters s r (now (list .exit)) (now (transitions .exit))) ⌝ }
+    ensures kept { λ r. ⌜ (count ≤ r) × (r ≤ suc stateLimit) × ((u : ℕ) → s * letters + letters ≤ u → getD (now (transitions .exit)) u 0 ≡ getD (now (transitions .entry)) u 0) ⌝ }
 {
-    list[0] = first;
-    let mut n: usize = 1;
-    let mut t: usize = 0;
-    while t < n * letters {
-        let x = successor(table, t % letters, vectors, list[t / letters]);
+    let row = s * letters;
+    let mut n = count;
+    let mut a: usize = 0;
+    while a < letters {
+        let b = wide(twins[a]);
+        if b < a {
+            transitions[row + a] = transitions[row + b];
+            a += 1;
+            continue;
+        }
+        let x = successor(table, a, vectors, list[s]);
         let p = position_of(list, n, x);
         if p == STATE_LIMIT {
             return STATE_LIMIT + 1;
         }
-        transitions[t] = p as u8;
-        t += 1;
+        transitions[row + a] = p as u8;
+        a += 1;
         if p == n {
             list[n] = x;
             n += 1;
@@ -108,10 +119,39 @@ fn explore(
     n
 }
 
+// Finds the states in the order of discovery: they go into list, and where they lead into transitions. Returns their number, or 129
+// where there are more than 128.
+fn explore(
+    table: &[u8; 8192],
+    twins: &[u8; 256],
+    vectors: u64,
+    letters: usize,
+    first: u64,
+    transitions: &mut [u8],
+    list: &mut [u64],
+) -> usize
+    requires { ⌜ (vectors ≤ 64) × (0 < letters) × (letters ≤ 256) × Twins letters (vectors / 2) (now table) (now twins) × (stateLimit * letters ≤ length (now transitions)) × (stateLimit ≤ length (now list)) ⌝ }
+    ensures explored { λ r. ⌜ ((φ : Formula) → Tabulates φ letters (now (table .entry)) → vectors ≡ 2 ^ suc (operators φ) → first ≡ start φ → Explored φ letters r (now (list .exit)) (now (transitions .exit))) ⌝ }
+    ensures kept { λ r. ⌜ (r ≤ suc stateLimit) × ((u : ℕ) → stateLimit * letters ≤ u → getD (now (transitions .exit)) u 0 ≡ getD (now (transitions .entry)) u 0) × (r ≤ stateLimit → (u : ℕ) → r * letters ≤ u → getD (now (transitions .exit)) u 0 ≡ getD (now (transitions .entry)) u 0) ⌝ }
+{
+    list[0] = first;
+    let mut n: usize = 1;
+    let mut s: usize = 0;
+    while s < n {
+        let r = explore_state(table, twins, vectors, letters, s, n, transitions, list);
+        if r > STATE_LIMIT {
+            return r;
+        }
+        n = r;
+        s += 1;
+    }
+    n
+}
+
 // The automaton of the formula whose valuations the table holds: its transitions and accepting flags, and the number of its states; 129
 // where they are more than 128.
 pub(crate) fn build(
-    table: &[u8; 16384],
+    table: &[u8; 8192],
     width: u64,
     end: u64,
     letters: usize,
@@ -127,7 +167,16 @@ pub(crate) fn build(
     let share = STATE_LIMIT * letters;
     let mut list = [0u64; STATE_LIMIT];
     clear(transitions, share);
-    let n = explore(table, vectors, letters, first, transitions, &mut list);
+    let twins = find_twins(table, (vectors / 2) as usize, letters);
+    let n = explore(
+        table,
+        &twins,
+        vectors,
+        letters,
+        first,
+        transitions,
+        &mut list,
+    );
     if n > STATE_LIMIT {
         clear(transitions, share);
         return n;

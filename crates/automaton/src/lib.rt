@@ -11,4 +11,5 @@ mod mask;
 mod operators;
 mod tabulate;
 pub mod trial;
+mod twins;
 mod valuation;

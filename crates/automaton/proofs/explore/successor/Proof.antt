@@ -1,20 +1,20 @@
--- `automaton::explore::successor` meets its contract. The invariant: the bits below v of r are those of the next state.
--- The measure is what is left of the valuations. Assumes nothing.
-use Prim.Native.Nat.{_-_, _≤_}
+-- `automaton::explore::successor` meets its contract. The invariant: the first k pairs of bits of r are those of the next state.
+-- The measure is what is left of the pairs. Assumes nothing.
+use Prim.Native.Nat.{_-_, _*_, _/_, _≤_}
 use mathlib.Core.Path.{_≡_, refl, ap, _∙_}
 use native.Mathlib.Omega.{arith}
 use borrow.Author.Needs.{needs}
 use Rattle.automaton.specs.Bits.{word}
-use Rattle.automaton.proofs.BitLaws.{word-lt, word-step, one-lt}
+use Rattle.automaton.proofs.BitLaws.{word-lt, pair-step, one-lt}
 use Rattle.automaton.proofs.SuccessorLaws.{held, held-after}
 use Rattle.automaton.proofs.explore.successor.Statement.{statement}
 use Rattle.automaton.proofs.explore.successor.Tie as tie
 
 abbrev Inv-loop : tie.InvT-loop
-Inv-loop table letter vectors state row r₀ v₀ r v = (v ≤ vectors) × (r ≡ word (held table letter state) v)
+Inv-loop table letter vectors state row pairs r₀ k₀ r k = (k ≤ vectors / 2) × (r ≡ word (λ v. held table letter state (v / 2)) (2 * k))
 
 abbrev μ-loop : tie.MeasureT-loop
-μ-loop table letter vectors state row r₀ v₀ r v = vectors - v
+μ-loop table letter vectors state row pairs r₀ k₀ r k = vectors / 2 - k
 
 mul-row : tie.Need-mul-row Inv-loop μ-loop
 mul-row c = search needs
@@ -35,14 +35,14 @@ cast-test-bit c = search needs
 test-bit-requires : tie.Need-test-bit-requires Inv-loop μ-loop
 test-bit-requires c κs = search needs
 
-set-bit-requires : tie.Need-set-bit-requires Inv-loop μ-loop
-set-bit-requires c κs =
+set-pair-requires : tie.Need-set-pair-requires Inv-loop μ-loop
+set-pair-requires c κs =
     let at = c .before .before .before in
     let a = at .before .args in
-    (omega arith, rw (c .test-bit .ensures) (one-lt (held (a .table .now) (a .letter) (a .state) (at .loop .v))), rw (at .loop .inv .1) (word-lt (held (a .table .now) (a .letter) (a .state)) (at .loop .v)))
+    (omega arith, rw (c .test-bit .ensures) (one-lt (held (a .table .now) (a .letter) (a .state) (at .loop .k))), rw (at .loop .inv .1) (word-lt (λ v. held (a .table .now) (a .letter) (a .state) (v / 2)) (2 * at .loop .k)))
 
-add-v : tie.Need-add-v Inv-loop μ-loop
-add-v c = search needs
+add-k : tie.Need-add-k Inv-loop μ-loop
+add-k c = search needs
 
 loop-less : tie.Need-loop-less Inv-loop μ-loop
 loop-less c = search needs
@@ -51,15 +51,15 @@ loop-again : tie.Need-loop-again Inv-loop μ-loop
 loop-again c =
     let at = c .before .before .before .before in
     let a = at .before .args in
-    (omega arith, c .set-bit .ensures ∙ word-step (held (a .table .now) (a .letter) (a .state)) (at .loop .v) _ _ (at .loop .inv .1) (c .before .test-bit .ensures))
+    (omega arith, c .set-pair .ensures ∙ pair-step (held (a .table .now) (a .letter) (a .state)) (at .loop .k) _ _ (at .loop .inv .1) (c .before .test-bit .ensures))
 
 returns : tie.Need-returns Inv-loop μ-loop
 returns c φ L t h e =
     let s = c .before .before in
     let a = s .args in
-    let all : c .before .loop .v ≡ a .vectors = omega arith in
-    c .before .loop .inv .1 ∙ ap (word (held (a .table .now) (a .letter) (a .state))) all ∙ held-after φ L (a .table .now) (a .letter) (a .vectors) (a .state) t h (s .pre .1) e
+    let all : 2 * c .before .loop .k ≡ 2 * (a .vectors / 2) = omega arith in
+    c .before .loop .inv .1 ∙ ap (word (λ v. held (a .table .now) (a .letter) (a .state) (v / 2))) all ∙ held-after φ L (a .table .now) (a .letter) (a .vectors) (a .state) t h (s .pre .1) e
 
 pub successor-spec : {M : Type 1} → statement M
 successor-spec =
-    tie.close (tie.spec Inv-loop μ-loop mul-row loop-holds add-u element-copy-out-u cast-test-bit test-bit-requires set-bit-requires add-v loop-less loop-again returns)
+    tie.close (tie.spec Inv-loop μ-loop mul-row loop-holds add-u element-copy-out-u cast-test-bit test-bit-requires set-pair-requires add-k loop-less loop-again returns)

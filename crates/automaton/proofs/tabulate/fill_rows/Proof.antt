@@ -13,11 +13,11 @@ use Rattle.automaton.proofs.tabulate.fill_rows.Statement.{statement}
 use Rattle.automaton.proofs.tabulate.fill_rows.Tie as tie
 
 abbrev Inv-loop : tie.InvT-loop
-Inv-loop nodes places count width letters table₀ a₀ table a =
-    (a ≤ letters) × (length table ≡ length table₀) × ((φ : Formula) → Represents nodes count φ → width ≡ suc (operators φ) → (b v : ℕ) → b < a → v < 64 → getD table (b * 64 + v) 0 ≡ present φ b v)
+Inv-loop nodes places count width entries letters table₀ a₀ table a =
+    (a ≤ letters) × (length table ≡ length table₀) × ((φ : Formula) → Represents nodes count φ → width ≡ suc (operators φ) → (b k : ℕ) → b < a → k < entries → getD table (b * 32 + k) 0 ≡ present φ b (2 * k))
 
 abbrev μ-loop : tie.MeasureT-loop
-μ-loop nodes places count width letters table₀ a₀ table a = letters - a
+μ-loop nodes places count width entries letters table₀ a₀ table a = letters - a
 
 pub fill-rows-spec : {M : Type 1} → statement M
 fill-rows-spec =
@@ -25,7 +25,7 @@ fill-rows-spec =
     (tie.spec
     Inv-loop
     μ-loop
-    (λ c. (omega arith, refl, λ φ rep w b v h. absurd (let z : ⊥ = omega arith in z)))
+    (λ c. (omega arith, refl, λ φ rep w b k h. absurd (let z : ⊥ = omega arith in z)))
     (λ c κs. search needs)
     (λ c. search needs)
     (λ c κs. search needs)
@@ -39,11 +39,11 @@ fill-rows-spec =
     let letter = at .loop .a in
     let inv = at .loop .inv in (
       omega arith,
-      f .kept .1 .1 .1 .0 ∙ inv .1,
-      λ φ rep w. rows-more (present φ) (f .last .1 .1 .1 .0) (at .loop .table) letter (inv .2 φ rep w) (λ v hv. f .ensures .0 v hv ∙ present-from φ letter (l .result) (a .width) w (l .ensures φ rep) v hv) (f .ensures .1),
+      f .kept .1 .1 .1 .1 .0 ∙ inv .1,
+      λ φ rep w. rows-more (a .entries) (λ b k. present φ b (2 * k)) (f .last .1 .1 .1 .1 .0) (at .loop .table) letter (at .before .before .pre .2) (inv .2 φ rep w) (λ k hk. f .ensures .0 k hk ∙ present-from φ letter (l .result) (a .width) w (l .ensures φ rep) (2 * k) (omega (arith, at .before .before .pre .2))) (f .ensures .1),
     ))
     (λ c. search needs)
     (λ c.
     let at = c .before in
     let a = at .before .before .args in
-    λ φ rep w. rows-tabulate φ (a .letters) (at .loop .table) (rep .few-operators) (λ b v h hv. at .loop .inv .2 φ rep w b v (omega arith) hv)))
+    λ φ rep w e. rows-tabulate φ (a .letters) (a .entries) (at .loop .table) e (λ b k h hk. at .loop .inv .2 φ rep w b k (omega arith) hk)))

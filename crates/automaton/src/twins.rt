@@ -1,0 +1,97 @@
+// Letters with equal rows in the table, which lead every state to the same state.
+ghost use mathlib.Core.Path.{_≡_};
+ghost use mathlib.Core.Bool.{true};
+ghost use Prim.Native.Nat.{_≤_, _<_};
+ghost use lib.ListN.{length};
+ghost use Rattle.automaton.specs.Representation.{SameRow, Twins};
+
+// The number of slots.
+const SLOTS: usize = 1021;
+
+// What is kept of a key, so that one more entry fits into the word: 56 bits.
+const KEYS: usize = 0x100_0000_0000_0000;
+
+// A byte as an index.
+pub(crate) fn wide(b: u8) -> usize
+    ensures { λ r. ⌜ r ≡ b ⌝ }
+{
+    b as usize
+}
+
+// Whether the rows of two letters are equal.
+fn same_row(table: &[u8; 8192], entries: usize, a: usize, b: usize) -> bool
+    requires { ⌜ (entries ≤ 32) × (a < 256) × (b < 256) ⌝ }
+    ensures { λ r. ⌜ (r ≡ true → SameRow (now (table .entry)) entries a b) ⌝ }
+{
+    let left = a * 32;
+    let right = b * 32;
+    let mut k: usize = 0;
+    while k < entries {
+        if table[left + k] != table[right + k] {
+            return false;
+        }
+        k += 1;
+    }
+    true
+}
+
+// The slot of a letter, which is made of its row: equal rows have the same slot, and different ones mostly different slots.
+fn slot_of(table: &[u8; 8192], entries: usize, letter: usize) -> usize
+    requires { ⌜ (entries ≤ 32) × (letter < 256) ⌝ }
+    ensures { λ r. ⌜ r < 1021 ⌝ }
+{
+    let row = letter * 32;
+    let mut key: usize = 0;
+    let mut k: usize = 0;
+    while k < entries {
+        let entry = table[row + k] % 64;
+        key = (key % KEYS) * 127 + entry as usize;
+        k += 1;
+    }
+    key % SLOTS
+}
+
+// The letter b, if it is smaller and has the same row, and else the letter itself.
+fn twin_of(table: &[u8; 8192], entries: usize, letter: usize, b: usize) -> usize
+    requires { ⌜ (entries ≤ 32) × (letter < 256) ⌝ }
+    ensures { λ r. ⌜ (r ≤ letter) × SameRow (now (table .entry)) entries r letter ⌝ }
+{
+    if b < letter {
+        if same_row(table, entries, b, letter) {
+            return b;
+        }
+    }
+    letter
+}
+
+// Sets each letter's twin. A slot holds the last letter that was its own twin there.
+fn fill_twins(
+    table: &[u8; 8192],
+    entries: usize,
+    letters: usize,
+    slots: &mut [u8],
+    twins: &mut [u8],
+)
+    requires { ⌜ (entries ≤ 32) × (letters ≤ 256) × (1021 ≤ length (now slots)) × (letters ≤ length (now twins)) ⌝ }
+    ensures { λ r. ⌜ Twins letters entries (now (table .entry)) (now (twins .exit)) ⌝ }
+{
+    let mut a: usize = 0;
+    while a < letters {
+        let k = slot_of(table, entries, a);
+        let b = twin_of(table, entries, a, wide(slots[k]));
+        slots[k] = b as u8;
+        twins[a] = b as u8;
+        a += 1;
+    }
+}
+
+// Each letter's twin: a letter with the same row, which is earlier where one was found and else the letter itself.
+pub(crate) fn find_twins(table: &[u8; 8192], entries: usize, letters: usize) -> [u8; 256]
+    requires { ⌜ (entries ≤ 32) × (letters ≤ 256) ⌝ }
+    ensures { λ r. ⌜ Twins letters entries (now (table .entry)) r ⌝ }
+{
+    let mut slots = [0u8; SLOTS];
+    let mut twins = [0u8; 256];
+    fill_twins(table, entries, letters, &mut slots, &mut twins);
+    twins
+}

@@ -15,6 +15,10 @@ row-below n k s j hs hj = omega (arith, mul-le-mul-right k hs, suc-mul s k)
 pub product-small : (a b c d : ℕ) → a ≤ c → b ≤ d → a * b ≤ c * d
 product-small a b c d h k = mul-le-mul h k
 
+-- input x of state s, where there are at most 128 states and 16 inputs
+pub pair-below : (n P s x : ℕ) → n ≤ 128 → P ≤ 16 → s < n → x < P → s * P + x < 2048
+pair-below n P s x hn hP hs hx = omega (arith, row-below n P s x hs hx, product-small n P 128 16 hn hP)
+
 pub record At (n P Q s x y : ℕ) : Type 0 where
   pub letters : P * Q ≤ 256
   pub row : s * (P * Q) ≤ 32768

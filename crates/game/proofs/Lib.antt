@@ -5,6 +5,7 @@ pub mod LimitLaws
 pub mod CountLaws
 pub mod ForcingLaws
 pub mod ServingLaws
+pub mod SearchLaws
 pub mod AttractionLaws
 pub mod PassLaws
 pub mod PromotionLaws

@@ -2,6 +2,7 @@
 use crate::arena::Game;
 use crate::arena::enters;
 use crate::arena::has_condition;
+use crate::arena::wide;
 ghost use mathlib.Core.Path.{_≡_};
 ghost use mathlib.Core.Bool.{true, false};
 ghost use Prim.Native.Nat.{_<_, _≤_};
@@ -67,16 +68,28 @@ fn serves(
     if accepting[t] != 0 {
         return true;
     }
-    if ranked_below(limits.lost, lost, t) {
+    let is_lost = ranked_below(limits.lost, lost, t);
+    let is_won = ranked_below(limits.won, won, t);
+    if is_lost {
         return false;
     }
-    if ranked_below(limits.won, won, t) {
+    if is_won {
         return true;
     }
     !has_condition(g.mask, x)
 }
 
-// The first input of state s that no output serves, or the number of inputs.
+// The output y, or output 0 where y is none of the n outputs.
+fn wrapped(y: usize, n: usize) -> usize
+    ensures { λ r. ⌜ (y < n → r ≡ y) × (n ≤ y → r ≡ 0) ⌝ }
+{
+    if y < n {
+        return y;
+    }
+    0
+}
+
+// The first input of state s that no output serves, or the number of inputs. The search for an output begins at the witness, the one that served last.
 fn unserved(
     g: Game,
     transitions: &[u8],
@@ -85,6 +98,7 @@ fn unserved(
     lost: &[u8; 128],
     limits: Limits,
     s: usize,
+    witness: &mut [u8; 2048],
 ) -> usize
     requires { ⌜ Valid (arenaOf g (now transitions) (now accepting)) ⌝ }
     requires { ⌜ s < g .states ⌝ }
@@ -94,16 +108,21 @@ fn unserved(
     let outputs = g.outputs;
     let mut x: usize = 0;
     'inputs: while x < inputs {
-        let mut y: usize = 0;
+        let at = s * inputs + x;
+        let mut y = wide(witness[at]);
+        let mut tried: usize = 0;
         loop {
-            if y == outputs {
+            if tried == outputs {
                 break 'inputs;
             }
+            y = wrapped(y, outputs);
             if serves(g, transitions, accepting, won, lost, limits, s, x, y) {
                 break;
             }
+            tried += 1;
             y += 1;
         }
+        witness[at] = y as u8;
         x += 1;
     }
     x
@@ -130,6 +149,7 @@ fn attracted(
     inner: &[u8; 128],
     p: u8,
     s: usize,
+    witness: &mut [u8; 2048],
 ) -> bool
     requires { ⌜ Valid (arenaOf g (now transitions) (now accepting)) ⌝ }
     requires { ⌜ s < g .states ⌝ }
@@ -145,14 +165,14 @@ fn attracted(
             won: EVERY_RANK,
             lost: p,
         };
-        let x = unserved(g, transitions, accepting, outer, inner, limits, s);
+        let x = unserved(g, transitions, accepting, outer, inner, limits, s, witness);
         x < inputs
     } else {
         let limits = Limits {
             won: p,
             lost: EVERY_RANK,
         };
-        let x = unserved(g, transitions, accepting, inner, outer, limits, s);
+        let x = unserved(g, transitions, accepting, inner, outer, limits, s, witness);
         inputs <= x
     }
 }
@@ -165,6 +185,7 @@ fn pass(
     outer: &[u8; 128],
     inner: &mut [u8; 128],
     p: u8,
+    witness: &mut [u8; 2048],
 ) -> bool
     requires { ⌜ Valid (arenaOf g (now transitions) (now accepting)) ⌝ }
     requires { ⌜ InnerRanks (g .fair) (arenaOf g (now transitions) (now accepting)) (now outer) (now inner) p ⌝ }
@@ -176,7 +197,7 @@ fn pass(
     let mut gave = false;
     let mut s: usize = 0;
     while s < states {
-        if attracted(g, transitions, accepting, outer, inner, p, s) {
+        if attracted(g, transitions, accepting, outer, inner, p, s, witness) {
             inner[s] = p;
             gave = true;
         }
@@ -186,13 +207,19 @@ fn pass(
 }
 
 // The inner ranks against these outer ranks: passes until one gives none.
-fn inner_ranks(g: Game, transitions: &[u8], accepting: &[u8], outer: &[u8; 128]) -> [u8; 128]
+fn inner_ranks(
+    g: Game,
+    transitions: &[u8],
+    accepting: &[u8],
+    outer: &[u8; 128],
+    witness: &mut [u8; 2048],
+) -> [u8; 128]
     requires { ⌜ Valid (arenaOf g (now transitions) (now accepting)) ⌝ }
     ensures { λ r. ⌜ Attraction (g .fair) (arenaOf g (now (transitions .entry)) (now (accepting .entry))) (now (outer .entry)) r ⌝ }
 {
     let mut inner: [u8; 128] = [0; 128];
     let mut p: u8 = 1;
-    while pass(g, transitions, accepting, outer, &mut inner, p) {
+    while pass(g, transitions, accepting, outer, &mut inner, p, witness) {
         p += 1;
     }
     inner
@@ -216,18 +243,18 @@ fn promote(outer: &mut [u8; 128], inner: &[u8; 128], n: usize, r: u8) -> bool
     gave
 }
 
-// The ranks of both players: rounds until one gives no outer rank.
-pub(crate) fn solve(g: Game, transitions: &[u8], accepting: &[u8]) -> Ranks
+// The ranks of both players, with the witnesses to begin with: rounds until one gives no outer rank.
+fn rounds(g: Game, transitions: &[u8], accepting: &[u8], witness: &mut [u8; 2048]) -> Ranks
     requires { ⌜ Valid (arenaOf g (now transitions) (now accepting)) ⌝ }
     ensures { λ r. ⌜ Ranking (g .fair) (arenaOf g (now (transitions .entry)) (now (accepting .entry))) (r .system) (r .environment) ⌝ }
 {
     let states = g.states;
     let mut outer: [u8; 128] = [0; 128];
     let mut r: u8 = 1;
-    let mut inner: [u8; 128] = inner_ranks(g, transitions, accepting, &outer);
+    let mut inner: [u8; 128] = inner_ranks(g, transitions, accepting, &outer, witness);
     while promote(&mut outer, &inner, states, r) {
         r += 1;
-        inner = inner_ranks(g, transitions, accepting, &outer);
+        inner = inner_ranks(g, transitions, accepting, &outer, witness);
     }
     if g.fair {
         return Ranks {
@@ -239,4 +266,13 @@ pub(crate) fn solve(g: Game, transitions: &[u8], accepting: &[u8]) -> Ranks
         system: inner,
         environment: outer,
     }
+}
+
+// The ranks of both players. The witness of a state and an input is the output that served it last; at first, output 0.
+pub(crate) fn solve(g: Game, transitions: &[u8], accepting: &[u8]) -> Ranks
+    requires { ⌜ Valid (arenaOf g (now transitions) (now accepting)) ⌝ }
+    ensures { λ r. ⌜ Ranking (g .fair) (arenaOf g (now (transitions .entry)) (now (accepting .entry))) (r .system) (r .environment) ⌝ }
+{
+    let mut witness: [u8; 2048] = [0; 2048];
+    rounds(g, transitions, accepting, &mut witness)
 }

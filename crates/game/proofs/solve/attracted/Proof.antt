@@ -15,10 +15,10 @@ attracted-spec =
     (λ c κs. search needs)
     (λ c κs. search needs)
     (λ c.
-    let apart = c .before .before .before .before .before .before .pre .1 .1 in
-    let u = c .before .before .before .unranked .ensures .0 (not-false→ _ (c .before .before .if1 .left)) in
-    attracted-fair apart u (c .before .if2 .taken) (c .unserved .ensures))
+    let apart = c .before .before .before .before .before .before .before .pre .1 .1 in
+    let u = c .before .before .before .before .unranked .ensures .0 (not-false→ _ (c .before .before .before .if1 .left)) in
+    attracted-fair apart u (c .before .before .if2 .taken) (c .unserved .ensures))
     (λ c.
-    let apart = c .before .before .before .before .before .before .pre .1 .1 in
-    let u = c .before .before .before .unranked .ensures .0 (not-false→ _ (c .before .before .if1 .left)) in
-    attracted-stable apart u (c .before .if2 .left) (c .unserved2 .ensures)))
+    let apart = c .before .before .before .before .before .before .before .pre .1 .1 in
+    let u = c .before .before .before .before .unranked .ensures .0 (not-false→ _ (c .before .before .before .if1 .left)) in
+    attracted-stable apart u (c .before .before .if2 .left) (c .unserved2 .ensures)))

@@ -17,24 +17,24 @@ use Rattle.game.proofs.solve.inner_ranks.Statement.{statement}
 use Rattle.game.proofs.solve.inner_ranks.Tie as tie
 
 abbrev Inv-loop : tie.InvT-loop
-Inv-loop g transitions accepting outer inner₀ p₀ inner p =
+Inv-loop g transitions accepting outer witness₀ inner₀ p₀ witness inner p =
     InnerRanks (g .fair) (arenaOf g transitions accepting) outer inner p × (p ≤ rankedCount inner (g .states) + 1) × (length inner ≡ 128)
 
 abbrev μ-loop : tie.MeasureT-loop
-μ-loop g transitions accepting outer inner₀ p₀ inner p = g .states + 1 - p
+μ-loop g transitions accepting outer witness₀ inner₀ p₀ witness inner p = g .states + 1 - p
 
 abbrev G : tie.Start Inv-loop μ-loop → Arena
 G z = arenaOf (z .args .g) (now (z .args .transitions)) (now (z .args .accepting))
 
 -- a pass that gives a rank leaves more states with one, and they are at most n
 more : (c : tie.Then1 Inv-loop μ-loop)
-    → let n = c .before .before .before .before .before .before .args .g .states in
-    (rankedCount (c .before .before .before .loop .inner) n < rankedCount (c .before .pass .last .1 .1 .1 .1 .0) n) × (rankedCount (c .before .pass .last .1 .1 .1 .1 .0) n ≤ n)
+    → let n = c .before .before .before .before .before .before .before .args .g .states in
+    (rankedCount (c .before .before .before .before .loop .inner) n < rankedCount (c .before .pass .last .1 .1 .1 .1 .0) n) × (rankedCount (c .before .pass .last .1 .1 .1 .1 .0) n ≤ n)
 more c =
-    let n = c .before .before .before .before .before .before .args .g .states in
+    let n = c .before .before .before .before .before .before .before .args .g .states in
     let new = c .before .pass .last .1 .1 .1 .1 .0 in
     let e = c .before .pass .ensures .0 in
-    (count-more (c .before .before .before .loop .inner) new (e .extends) n (e .more (c .if1 .taken)), count-bound new n)
+    (count-more (c .before .before .before .before .loop .inner) new (e .extends) n (e .more (c .if1 .taken)), count-bound new n)
 
 pub inner-ranks-spec : {M : Type 1} → statement M
 inner-ranks-spec =
@@ -46,13 +46,14 @@ inner-ranks-spec =
     let z = c .before .before in
     (no-ranks (replicate 128 0) (zeros 128), search needs, refl))
     (λ c κs.
-    let z = c .before .before .before .before in
-    (z .pre, (c .before .loop .inv .0, c .before .loop .inv .2)))
-    (λ c. omega (arith, more c, c .before .before .before .before .before .before .pre .moving .states-fit))
+    let z = c .before .before .before .before .before in
+    let l = c .before .before .loop in
+    (z .pre, (l .inv .0, l .inv .2)))
+    (λ c. omega (arith, more c, c .before .before .before .before .before .before .before .pre .moving .states-fit))
     (λ c. omega (arith, more c))
     (λ c. (c .before .pass .ensures .0 .ranks, omega (arith, more c), c .before .pass .ensures .1))
     (λ c.
-    let z = c .before .before .before .before .before .before in
-    let l = c .before .before .before .loop in
+    let z = c .before .before .before .before .before .before .before in
+    let l = c .before .before .before .before .loop in
     passes-end (z .pre)
     (omega (arith, count-bound (l .inner) (z .args .g .states))) (l .inv .0) (c .before .pass .ensures .0) (c .if1 .left)))

@@ -17,11 +17,11 @@ use Rattle.game.proofs.solve.pass.Statement.{statement}
 use Rattle.game.proofs.solve.pass.Tie as tie
 
 abbrev Inv-loop : tie.InvT-loop
-Inv-loop g transitions accepting outer inner₀ p states gave₀ s₀ inner gave s =
+Inv-loop g transitions accepting outer inner₀ p witness₀ states gave₀ s₀ inner witness gave s =
     (s ≤ g .states) × Passed (g .fair) (arenaOf g transitions accepting) outer inner₀ inner p s gave × (length inner ≡ 128)
 
 abbrev μ-loop : tie.MeasureT-loop
-μ-loop g transitions accepting outer inner₀ p states gave₀ s₀ inner gave s = g .states - s
+μ-loop g transitions accepting outer inner₀ p witness₀ states gave₀ s₀ inner witness gave s = g .states - s
 
 abbrev G : tie.Start Inv-loop μ-loop → Arena
 G z = arenaOf (z .args .g) (now (z .args .transitions)) (now (z .args .accepting))
@@ -29,8 +29,8 @@ G z = arenaOf (z .args .g) (now (z .args .transitions)) (now (z .args .accepting
 -- one more state passed, whichever way the branch went
 again : tie.Need-loop-again Inv-loop μ-loop
 again c =
-    let z = c .before .before .before .before .before .before .before in
-    let l = c .before .before .before .before .loop in
+    let z = c .before .before .before .before .before .before .before .before in
+    let l = c .before .before .before .before .before .loop in
     let e = c .before .attracted .ensures in
     let v = z .pre .0 in
     let P : List ℕ → Bool → Type 0 = λ new gave.
@@ -55,10 +55,10 @@ pass-spec =
     μ-loop
     (λ c. let z = c .before .before in (search needs, pass-starts (z .pre .1 .0), z .pre .1 .1))
     (λ c κs.
-    let z = c .before .before .before .before .before in
-    (z .pre .0, (c .before .loop-test .taken, c .before .before .loop .inv .1 .ranks .apart)))
-    (λ c. omega (arith, c .before .before .before .before .before .before .before .pre .0 .moving .states-fit))
-    (λ c. omega (arith, c .before .before .before .before .before .before .before .pre .0 .moving .states-fit))
+    let z = c .before .before .before .before .before .before in
+    (z .pre .0, (c .before .before .loop-test .taken, c .before .before .before .loop .inv .1 .ranks .apart)))
+    (λ c. omega (arith, c .before .before .before .before .before .before .before .before .pre .0 .moving .states-fit))
+    (λ c. omega (arith, c .before .before .before .before .before .before .before .before .pre .0 .moving .states-fit))
     (λ c. omega arith)
     again
     (λ c. let l = c .before .loop in (pass-over (omega arith) (l .inv .1), l .inv .2)))

@@ -42,19 +42,19 @@ serves-spec =
     let z = e .before .before .before in
     moved e _ (at-goal (G z) (won z) (lost z) (z .args .x) (e .enters .result) (c .if1 .taken)))
     (λ c κs. search needs)
-    (λ c.
-    let e = c .before .before .before .before in
-    let z = e .before .before .before in
-    moved e _ (at-lost (G z) (won z) (lost z) (z .args .x) (e .enters .result) (c .before .before .if1 .left) (sym (c .before .ranked-below .ensures) ∙ c .if2 .taken)))
     (λ c κs. search needs)
+    (λ c.
+    let e = c .before .before .before .before .before in
+    let z = e .before .before .before in
+    moved e _ (at-lost (G z) (won z) (lost z) (z .args .x) (e .enters .result) (c .before .before .before .if1 .left) (sym (c .before .before .ranked-below .ensures) ∙ c .if2 .taken)))
     (λ c.
     let e = c .before .before .before .before .before .before in
     let z = e .before .before .before in
     moved e _ (at-won (G z) (won z) (lost z) (z .args .x) (e .enters .result) (c .before .before .before .before .if1 .left)
-    (sym (c .before .before .before .ranked-below .ensures) ∙ c .before .before .if2 .left) (sym (c .before .ranked-below2 .ensures) ∙ c .if3 .taken)))
+    (sym (c .before .before .before .ranked-below .ensures) ∙ c .before .if2 .left) (sym (c .before .before .ranked-below2 .ensures) ∙ c .if3 .taken)))
     (λ c κs. search needs)
     (λ c.
     let e = c .before .before .before .before .before .before .before in
     let z = e .before .before .before in
     ap not (c .has-condition .ensures) ∙ moved e _ (at-else (G z) (won z) (lost z) (z .args .x) (e .enters .result) (c .before .before .before .before .before .if1 .left)
-    (sym (c .before .before .before .before .ranked-below .ensures) ∙ c .before .before .before .if2 .left) (sym (c .before .before .ranked-below2 .ensures) ∙ c .before .if3 .left))))
+    (sym (c .before .before .before .before .ranked-below .ensures) ∙ c .before .before .if2 .left) (sym (c .before .before .before .ranked-below2 .ensures) ∙ c .before .if3 .left))))

@@ -1,4 +1,4 @@
--- `game::solve::solve` meets its contract. The invariant: the outer ranks are those of the rounds before r, at least r - 1 states have one, and the inner
+-- `game::solve::rounds` meets its contract. The invariant: the outer ranks are those of the rounds before r, at least r - 1 states have one, and the inner
 -- ranks are complete against them. The measure is the number of rounds that there can still be.
 -- Assumes nothing.
 use mathlib.Core.Path.{_≡_, refl}
@@ -13,26 +13,26 @@ use Rattle.game.specs.Solver.{Attraction}
 use Rattle.game.proofs.CountLaws.{rankedCount, count-bound, count-more}
 use Rattle.game.proofs.LimitLaws.{zeros}
 use Rattle.game.proofs.RoundLaws.{OuterRanks, Certified, no-rounds, round-more, round-grows, rounds-end, ranking-fair, ranking-stable}
-use Rattle.game.proofs.solve.solve.Statement.{statement}
-use Rattle.game.proofs.solve.solve.Tie as tie
+use Rattle.game.proofs.solve.rounds.Statement.{statement}
+use Rattle.game.proofs.solve.rounds.Tie as tie
 
 abbrev Inv-loop : tie.InvT-loop
-Inv-loop g transitions accepting states outer₀ r₀ inner₀ outer r inner =
+Inv-loop g transitions accepting witness₀ states outer₀ r₀ inner₀ witness outer r inner =
     let G = arenaOf g transitions accepting in
     OuterRanks (g .fair) G outer r × Attraction (g .fair) G outer inner × (r ≤ rankedCount outer (g .states) + 1) × (length outer ≡ 128)
 
 abbrev μ-loop : tie.MeasureT-loop
-μ-loop g transitions accepting states outer₀ r₀ inner₀ outer r inner = g .states + 1 - r
+μ-loop g transitions accepting witness₀ states outer₀ r₀ inner₀ witness outer r inner = g .states + 1 - r
 
 abbrev G : tie.Start Inv-loop μ-loop → Arena
 G z = arenaOf (z .args .g) (now (z .args .transitions)) (now (z .args .accepting))
 
 -- a round that gives a rank leaves more states with one, and they are at most n
 more : (c : tie.Then1 Inv-loop μ-loop)
-    → let n = c .before .before .before .before .before .before .before .before .before .args .g .states in
+    → let n = c .before .before .before .before .before .before .before .before .before .before .args .g .states in
     (rankedCount (c .before .before .before .before .loop .outer) n < rankedCount (c .before .promote .last .0) n) × (rankedCount (c .before .promote .last .0) n ≤ n)
 more c =
-    let z = c .before .before .before .before .before .before .before .before .before in
+    let z = c .before .before .before .before .before .before .before .before .before .before in
     let l = c .before .before .before .before .loop in
     let new = c .before .promote .last .0 in
     let e = c .before .promote .ensures .0 in (
@@ -43,33 +43,33 @@ more c =
 
 -- after a round that gives none the ranks are a certificate
 certified : (c : tie.Else1 Inv-loop μ-loop)
-    → let z = c .before .before .before .before .before .before .before .before .before in
+    → let z = c .before .before .before .before .before .before .before .before .before .before in
     Certified (z .args .g .fair) (G z) (c .before .promote .last .0) (c .before .before .before .before .loop .inner)
 certified c =
-    let z = c .before .before .before .before .before .before .before .before .before in
+    let z = c .before .before .before .before .before .before .before .before .before .before in
     let l = c .before .before .before .before .loop in
     rounds-end (z .pre) (l .inv .0) (l .inv .1) (c .before .promote .ensures .0) (c .if1 .left)
     (omega (arith, count-bound (l .outer) (z .args .g .states), l .inv .2))
 
-pub solve-spec : {M : Type 1} → statement M
-solve-spec =
+pub rounds-spec : {M : Type 1} → statement M
+rounds-spec =
     tie.close
     (tie.spec
     Inv-loop
     μ-loop
-    (λ c κs. c .before .before .before .pre)
+    (λ c κs. c .before .before .before .before .pre)
     (λ c. (no-rounds (replicate 128 0) (zeros 128), c .inner-ranks .ensures, search needs, refl))
-    (λ c κs. (c .before .before .before .before .before .before .before .pre .moving .states-fit, c .before .before .loop .inv .3))
-    (λ c. omega (arith, more c, c .before .before .before .before .before .before .before .before .before .pre .moving .states-fit, c .before .before .before .before .loop .inv .2))
-    (λ c κs. c .before .before .before .before .before .before .before .before .before .before .pre)
-    (λ c. omega (arith, more (c .before .before), c .before .before .before .before .before .before .loop .inv .2))
+    (λ c κs. (c .before .before .before .before .before .before .before .before .pre .moving .states-fit, c .before .before .loop .inv .3))
+    (λ c. omega (arith, more c, c .before .before .before .before .before .before .before .before .before .before .pre .moving .states-fit, c .before .before .before .before .loop .inv .2))
+    (λ c κs. c .before .before .before .before .before .before .before .before .before .before .before .before .pre)
+    (λ c. omega (arith, more (c .before .before .before), c .before .before .before .before .before .before .before .loop .inv .2))
     (λ c.
-    let z = c .before .before .before .before .before .before .before .before .before .before .before in
-    let l = c .before .before .before .before .before .before .loop in
-    let p = c .before .before .before .promote in (
+    let z = c .before .before .before .before .before .before .before .before .before .before .before .before .before in
+    let l = c .before .before .before .before .before .before .before .loop in
+    let p = c .before .before .before .before .promote in (
       round-more (z .pre) (l .inv .0) (l .inv .1) (p .ensures .0),
       c .inner-ranks2 .ensures,
-      omega (arith, more (c .before .before), l .inv .2),
+      omega (arith, more (c .before .before .before), l .inv .2),
       p .ensures .1,
     ))
     (λ c. ranking-fair (c .if2 .taken) (certified (c .before)))

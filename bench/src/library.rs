@@ -2,25 +2,8 @@
 //! call, so that nothing is allocated while a call is timed.
 
 use solver::calls::Given;
+use solver::header::{airtable_solve_given, airtable_solve_rule};
 use solver::Mode;
-
-#[rustfmt::skip]
-extern "C" {
-    fn airtable_solve_rule(
-        i: usize, o: usize, mode: u8,
-        rule: *const u8, rule_length: usize, condition: *const u8, condition_length: usize,
-        moves: *mut u8, moves_length: usize, marks: *mut u8, marks_length: usize,
-        station: *mut u8, station_length: usize, outside: *mut u8, outside_length: usize,
-        can: *mut u8, n: *mut usize, place: *mut usize,
-    ) -> u8;
-    fn airtable_solve_given(
-        i: usize, o: usize, mode: u8, n: usize,
-        moves: *const u8, moves_length: usize, marks: *const u8, marks_length: usize,
-        start: usize, mask: u16,
-        station: *mut u8, station_length: usize, outside: *mut u8, outside_length: usize,
-        can: *mut u8, place: *mut usize,
-    ) -> u8;
-}
 
 /// The lent buffers, with what the last call handed back.
 pub struct Library {

@@ -14,12 +14,14 @@
 //! calls      the calls with their refusals and buffers
 //! listing    the program `airtable`, bytes to bytes
 //! large      rules with about 128 states
+//! header     the library in C, for the programs that call it
 //! chance, makers  seeded random inputs for the comparing programs
 
 pub mod automaton;
 pub mod calls;
 pub mod chance;
 pub mod game;
+pub mod header;
 pub mod judge;
 pub mod large;
 pub mod listing;

@@ -1,36 +1,9 @@
-//! README: the C declarations of include/airtable.h, word for word, and one plain function for
-//! each that hands back every value the call may have written.
+//! README: one plain function for each call of include/airtable.h, which hands back every value that
+//! the call may have written.
 
 use crate::common::{Lent, SENTINEL};
+use solver::header::{airtable_follow, airtable_solve_given, airtable_solve_rule, airtable_try_rule};
 use solver::Mode;
-
-#[rustfmt::skip]
-extern "C" {
-    fn airtable_solve_rule(
-        i: usize, o: usize, mode: u8,
-        rule: *const u8, rule_length: usize, condition: *const u8, condition_length: usize,
-        moves: *mut u8, moves_length: usize, marks: *mut u8, marks_length: usize,
-        station: *mut u8, station_length: usize, outside: *mut u8, outside_length: usize,
-        can: *mut u8, n: *mut usize, place: *mut usize,
-    ) -> u8;
-    fn airtable_solve_given(
-        i: usize, o: usize, mode: u8, n: usize,
-        moves: *const u8, moves_length: usize, marks: *const u8, marks_length: usize,
-        start: usize, mask: u16,
-        station: *mut u8, station_length: usize, outside: *mut u8, outside_length: usize,
-        can: *mut u8, place: *mut usize,
-    ) -> u8;
-    fn airtable_follow(
-        i: usize, o: usize, n: usize,
-        moves: *const u8, moves_length: usize, marks: *const u8, marks_length: usize,
-        station: *const u8, station_length: usize,
-        input: usize, state: *mut usize, reached: *mut u8, row: *mut u8, output: *mut u8, place: *mut usize,
-    ) -> u8;
-    fn airtable_try_rule(
-        i: usize, o: usize, rule: *const u8, rule_length: usize,
-        letters: *const u8, letters_length: usize, satisfied: *mut u8, place: *mut usize,
-    ) -> u8;
-}
 
 /// What a call handed back: the number, and the values it may have written.
 #[derive(Clone, Copy, Debug)]

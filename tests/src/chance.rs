@@ -17,7 +17,7 @@ impl Chance {
     }
 
     /// The next 64 bits.
-    pub fn next(&mut self) -> u64 {
+    pub fn draw(&mut self) -> u64 {
         self.word ^= self.word << 13;
         self.word ^= self.word >> 7;
         self.word ^= self.word << 17;
@@ -26,7 +26,7 @@ impl Chance {
 
     /// A number below a bound, which is not 0.
     pub fn below(&mut self, bound: usize) -> usize {
-        ((self.next() >> 11) % bound as u64) as usize
+        ((self.draw() >> 11) % bound as u64) as usize
     }
 
     /// A number from `low` to `high`, both included.
@@ -41,7 +41,7 @@ impl Chance {
 
     /// Any byte.
     pub fn byte(&mut self) -> u8 {
-        (self.next() >> 56) as u8
+        (self.draw() >> 56) as u8
     }
 
     /// Some bytes.

@@ -51,7 +51,7 @@ impl Look<'_> {
     fn until(&mut self, left: Option<usize>, right: usize, from: usize, wanted: bool) -> bool {
         (from..self.letters.len()).any(|later| {
             self.holds(right, later) == wanted
-                && (from..later).all(|k| left.map_or(true, |node| self.holds(node, k) == wanted))
+                && (from..later).all(|k| left.is_none_or(|node| self.holds(node, k) == wanted))
         })
     }
 }

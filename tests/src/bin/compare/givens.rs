@@ -28,7 +28,7 @@ impl Case {
             moves.extend(chance.bytes(more));
             marks.extend(chance.bytes(more));
         }
-        let mask = (chance.next() & ((1u64 << (1 << i)) - 1)) as u16;
+        let mask = (chance.draw() & ((1u64 << (1 << i)) - 1)) as u16;
         let mask = if chance.one_in(5) { chance.pick(&[0, ((1u32 << (1 << i)) - 1) as u16]) } else { mask };
         let start = chance.below(n);
         let (station, outside) = (enough(chance, 128 << i), enough(chance, 128));

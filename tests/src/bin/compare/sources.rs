@@ -8,8 +8,11 @@ use solver::calls::{try_rule, Verdict};
 use solver::chance::Chance;
 use solver::Mode;
 
-/// The readings with i = o = 1: mode, condition, rule, verdict and n, or the refusal (none where the verdict is open).
-const READINGS: [(Mode, &str, &str, Option<(bool, usize)>); 14] = [
+/// Mode, condition, rule, and verdict with n; none where it is refused or the verdict is open.
+type Reading = (Mode, &'static str, &'static str, Option<(bool, usize)>);
+
+/// The readings with i = o = 1.
+const READINGS: [Reading; 14] = [
     (Mode::Fair, "1", "Fp", Some((true, 3))),
     (Mode::Fair, "1", "Fa", Some((false, 3))),
     (Mode::Fair, "a", "Fa", Some((true, 3))),

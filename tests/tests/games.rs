@@ -19,7 +19,7 @@ fn random_game(chance: &mut Chance, most: usize) -> Game {
     let n = chance.between(1, most);
     let mode = if chance.one_in(2) { Mode::Fair } else { Mode::Stable };
     let (moves, marks) = game_shape(chance, i, o, n);
-    let mask = chance.next() as u16 & ((1u32 << (1 << i)) - 1) as u16;
+    let mask = chance.draw() as u16 & ((1u32 << (1 << i)) - 1) as u16;
     let goals = marks.iter().map(|&mark| mark != 0).collect();
     Game { i, o, n, moves: moves.iter().map(|&t| t as usize).collect(), goals, mask, mode }
 }

@@ -11,7 +11,8 @@
 //! These are not exact maxima: a hill climb found half as many again (fair, n = 16: 466 for 307)
 //! and a little more (stable, n = 16: 752 for 697). That they lead for large n is an argument on
 //! paper only. `crowded` has the worst ratio to the solver among the heads and chains of a grid.
-//! Every look is long: an input is served by its last output alone, and the last input decides.
+//! Every look is long for a search from output 0 on: an input is served by its last output alone,
+//! and the last input decides.
 
 use solver::calls::Given;
 use solver::chance::Chance;

@@ -33,7 +33,7 @@ row-later c k u p r =
 row-first : (c : ℕ → Bool) (k : ℕ) (u p : List Step) → length u ≡ k → Every c u → InRow c k (u ++ p)
 row-first c k u p l e = record { before = []; row = u; rest = p; whole = refl; long = l; all = e }
 
-count-append : (c : ℕ → Bool) (u p : List Step) → count c (u ++ p) ≡ count c u + count c p
+pub count-append : (c : ℕ → Bool) (u p : List Step) → count c (u ++ p) ≡ count c u + count c p
 unfolding count
 count-append c [] p = omega arith
 count-append c (a ∷ u) p =
@@ -79,12 +79,12 @@ unfolding count
 failed-later true G a p h = row-later (lacks G) (G .states) (a ∷ []) p h
 failed-later false G a p h = on (lacks G (a .input)) (λ e. rw e (omega arith)) (λ e. rw e h)
 
-reaches-later : (G : Arena) (s : ℕ) (a : Step) (p : List Step) → goal G (entered G s a) ≡ false → reaches G s (a ∷ p) ≡ reaches G (entered G s a) p
+pub reaches-later : (G : Arena) (s : ℕ) (a : Step) (p : List Step) → goal G (entered G s a) ≡ false → reaches G s (a ∷ p) ≡ reaches G (entered G s a) p
 unfolding reaches
 reaches-later G s a p e = rw e
 
 module _ (fair : Bool) (G : Arena) where
-  system-later : (σ : List ℕ) (s : ℕ) (a : Step) → BySystem G σ s a → goal G (entered G s a) ≡ false → SystemWins fair G σ s → SystemWins fair G σ (entered G s a)
+  pub system-later : (σ : List ℕ) (s : ℕ) (a : Step) → BySystem G σ s a → goal G (entered G s a) ≡ false → SystemWins fair G σ s → SystemWins fair G σ (entered G s a)
   unfolding Along run
   system-later σ s a h e w =
       record {
@@ -92,7 +92,7 @@ module _ (fair : Bool) (G : Arena) where
         answers = λ p l m. w .answers (a ∷ p) (h, l) (reaches-later G s a p e ∙ m);
       }
 
-  environment-later : (τ : List ℕ) (s : ℕ) (a : Step) → ByEnvironment G τ s a → goal G (entered G s a) ≡ false → EnvironmentWins fair G τ s → EnvironmentWins fair G τ (entered G s a)
+  pub environment-later : (τ : List ℕ) (s : ℕ) (a : Step) → ByEnvironment G τ s a → goal G (entered G s a) ≡ false → EnvironmentWins fair G τ s → EnvironmentWins fair G τ (entered G s a)
   unfolding Along run
   environment-later τ s a h e w =
       record {

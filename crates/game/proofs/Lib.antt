@@ -22,3 +22,6 @@ pub mod RuleCheckLaws
 pub mod RuleCallLaws
 pub mod Determined
 pub mod OneAnswer
+pub mod EndlessLaws
+pub mod WayLaws
+pub mod EndlessAnswers

@@ -30,13 +30,13 @@ use Rattle.game.proofs.CheckLaws.{small-power}
 
 -- a beginning of a play
 module _ (G : Arena) where
-  take-along : (R : ℕ → Step → Type 0) (s : ℕ) (p : List Step) (k : ℕ) → Along G R s p → Along G R s (take k p)
+  pub take-along : (R : ℕ → Step → Type 0) (s : ℕ) (p : List Step) (k : ℕ) → Along G R s p → Along G R s (take k p)
   unfolding Along
   take-along R s p zero h = tt
   take-along R s [] (suc k) h = tt
   take-along R s (a ∷ p) (suc k) h = (h .0, take-along R (entered G s a) p k (h .1))
 
-  take-letters : (p : List Step) (k : ℕ) → take k (letters G p) ≡ letters G (take k p)
+  pub take-letters : (p : List Step) (k : ℕ) → take k (letters G p) ≡ letters G (take k p)
   unfolding letters
   take-letters p zero = refl
   take-letters [] (suc k) = refl
@@ -129,7 +129,7 @@ module _ (φ : Formula) (i o n : ℕ) (transitions flags : List ℕ) (mask : ℕ
   abbrev G : Arena
   G = arena i o n transitions flags mask
 
-  on-product : Automaton φ (2 ^ i * 2 ^ o) n transitions flags
+  pub on-product : Automaton φ (2 ^ i * 2 ^ o) n transitions flags
   on-product = subst (λ (L : ℕ). Automaton φ L n transitions flags) (pow-add 2 i o) automaton
 
   -- the solver may be given this arena

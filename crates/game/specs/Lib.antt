@@ -2,6 +2,8 @@ pub mod Answer
 pub mod Arena
 pub mod Play
 pub mod Strategy
+pub mod Way
+pub mod Endless
 pub mod Rank
 pub mod Solver
 pub mod Tables
@@ -10,4 +12,5 @@ pub mod Checks
 pub mod Given
 pub mod Follower
 pub mod Rule
+pub mod EndlessAnswer
 pub mod RuleChecks

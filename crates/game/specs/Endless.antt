@@ -1,0 +1,67 @@
+-- Plays without end, and what "can" and "cannot" say of them: the two answers to "can any order of cues, without end, hold the rule off?".
+-- A play without end has a step for each number; its beginnings are plays. The two promises of the environment are as the field states them:
+-- fair, the condition holds again and again; stable, from some step on it holds always.
+-- Assumes nothing.
+use Prim.Native.Nat.{ℕ, zero, suc, _≤_}
+use mathlib.Core.Path.{_≡_}
+use mathlib.Core.Bool.{Bool, true, false}
+use mathlib.Core.List.{List, [], _∷_}
+use lib.ListN.{length}
+use Rattle.game.specs.Arena.{Arena, holds}
+use Rattle.game.specs.Play.{Step, Along}
+use Rattle.game.specs.Strategy.{BySystem, ByEnvironment, Failed}
+use Rattle.game.specs.Way.{SystemWay, EnvironmentWay, Outputs, Inputs, bySystem, byEnvironment, meet, Chosen}
+
+-- the first k steps of a play without end
+unfoldable pub first : (ℕ → Step) → ℕ → List Step
+first f zero = []
+first f (suc k) = f 0 ∷ first (λ j. f (suc j)) k
+
+-- every beginning of it, from state s, is a play that R allows
+abbrev pub Follows : Arena → (ℕ → Step → Type 0) → ℕ → (ℕ → Step) → Type 0
+Follows G R s f = (k : ℕ) → Along G R s (first f k)
+
+-- steps whose input passes c come again and again: from every step on there is one
+abbrev pub Again : (ℕ → Bool) → (ℕ → Step) → Type 0
+Again c f = (m : ℕ) → (j : ℕ) × (m ≤ j) × (c (f j .input) ≡ true)
+
+-- from some step on every step's input passes c
+abbrev pub Finally : (ℕ → Bool) → (ℕ → Step) → Type 0
+Finally c f = (m : ℕ) × ((j : ℕ) → m ≤ j → c (f j .input) ≡ true)
+
+-- the environment's promise is kept on the play
+abbrev pub Promised : Bool → Arena → (ℕ → Step) → Type 0
+Promised true G f = Again (holds G) f
+Promised false G f = Finally (holds G) f
+
+-- it is not broken. This logic does not assume that a thing holds or does not hold; a reader who does may read it as `Promised`
+-- (proofs/EndlessLaws.antt, `not-broken`), and only the stable mode needs that
+abbrev pub Unbroken : Bool → Arena → (ℕ → Step) → Type 0
+Unbroken true G f = Promised true G f
+Unbroken false G f = (Promised false G f → ⊥) → ⊥
+
+-- "can": `Done` says of the beginning of a play that it does what it has to.
+pub record CanEndless (fair : Bool) (G : Arena) (σ : List ℕ) (s : ℕ) (Done : List Step → Type 0) : Type 0 where
+  -- on every play without end that follows the system's strategy, and on which the environment keeps its promise, a beginning is done
+  pub plays : (f : ℕ → Step) → Follows G (BySystem G σ) s f → Promised fair G f → (k : ℕ) × Done (first f k)
+  -- whatever the environment does, with any memory: if it keeps its promise on the play that it makes with the strategy, a beginning of it is done, and up to
+  -- there the strategy had an output wherever one was needed
+  pub ways : (α : EnvironmentWay) → Inputs G α → Promised fair G (meet α (bySystem G σ s))
+      → (k : ℕ) × Along G (BySystem G σ) s (first (meet α (bySystem G σ s)) k) × Done (first (meet α (bySystem G σ s)) k)
+
+-- no beginning of the play without end is ever done; the environment's promise is not broken on it, and none of its beginnings fails the assumption
+pub record Defeated (fair : Bool) (G : Arena) (Done : List Step → Type 0) (f : ℕ → Step) : Type 0 where
+  pub never : (k : ℕ) → Done (first f k) → ⊥
+  pub promised : Unbroken fair G f
+  pub keeping : (k : ℕ) → Failed fair G (first f k) → ⊥
+
+-- "cannot"
+pub record CannotEndless (fair : Bool) (G : Arena) (τ : List ℕ) (s : ℕ) (Done : List Step → Type 0) : Type 0 where
+  -- every play without end that follows the environment's strategy is defeated
+  pub plays : (f : ℕ → Step) → Follows G (ByEnvironment G τ) s f → Defeated fair G Done f
+  -- and so is every way of answering, with any memory: the play that it makes with the strategy is defeated; it follows the strategy and the way, and is the
+  -- only one of its length that does
+  pub ways : (ω : SystemWay) → Outputs G ω → Defeated fair G Done (meet (byEnvironment G τ s) ω)
+  pub made : (ω : SystemWay) → Outputs G ω → Follows G (ByEnvironment G τ) s (meet (byEnvironment G τ s) ω)
+  pub chosen : (ω : SystemWay) (k : ℕ) → Chosen ω (first (meet (byEnvironment G τ s) ω) k)
+  pub only : (ω : SystemWay) (p : List Step) → Along G (ByEnvironment G τ) s p → Chosen ω p → p ≡ first (meet (byEnvironment G τ s) ω) (length p)

@@ -8,7 +8,7 @@ use solver::signatures::{files, module_path, of_crates, of_source, tokens, Claus
 use std::path::Path;
 
 /// A public function, and the promise that each of its `ensures` clauses cites, in their order. A promise is the
-/// beginning of what stands in the clause, or of what stands there after `r ≡`: a name, and more where a name says little.
+/// beginning of what stands in the clause, or there after `r ≡` or `now (x .exit) ≡`: a name, and more where it says little.
 type Row = (&'static str, &'static [&'static str]);
 
 /// A new public function gets a row here.
@@ -96,6 +96,11 @@ fn clause_fault(function: &Function, clause: &Clause, promise: &str) -> Option<S
     let body = &clause.tokens[4..clause.tokens.len() - 1];
     let stated = match body {
         [first, equals, stated @ ..] if first == result && equals == "≡" => stated,
+        [now, open, _, dot, exit, close, equals, stated @ ..]
+            if [now, open, dot, exit, close, equals] == ["now", "(", ".", "exit", ")", "≡"] =>
+        {
+            stated
+        }
         _ => body,
     };
     if !stated.starts_with(&tokens(promise)) {
@@ -106,7 +111,7 @@ fn clause_fault(function: &Function, clause: &Clause, promise: &str) -> Option<S
     if let Some(part) = level(stated).iter().find(|&part| !plain(part)) {
         return Some(format!("states more or less than {promise}: {part}"));
     }
-    if !body.contains(result) && !has(body, &[".", "exit"]) {
+    if (result == "_" || !body.contains(result)) && !has(body, &[".", "exit"]) {
         return Some("names neither the result nor what is written".into());
     }
     is_trivial(body).then(|| "holds of everything: X ≡ X".into())
@@ -123,7 +128,7 @@ fn contract_faults(function: &Function, promises: &[&str]) -> Vec<String> {
     faults.extend(clauses.filter_map(|(clause, promise)| clause_fault(function, clause, promise)));
     let named = |part: &[&str]| ensures.iter().any(|clause| has(&clause.tokens[3.min(clause.tokens.len())..], part));
     let results: Vec<_> = ensures.iter().filter_map(|clause| clause.tokens.get(1)).collect();
-    if !results.iter().any(|result| named(&[result])) {
+    if !function.returns.is_empty() && !results.iter().any(|result| *result != "_" && named(&[result])) {
         faults.push("says nothing of its result".into());
     }
     for parameter in &function.parameters {
@@ -184,6 +189,7 @@ fn good_contracts_pass() {
         "// pub fn g() {}\npub extern \"C\" fn f(\n    x: &[u8],\n    y: &mut usize,\n) -> u8\n    // a word\n    \
          ensures { λ s. ⌜ P (now (x .entry)) (now (y .exit)) s ⌝ } // more\n{ 0 }",
         "pub const fn f(x_y: u8) -> u8 ensures { λ r. ⌜ P «x_y» {- } -} r -- } requires\n ⌝ } { 0 }",
+        "pub fn f(x: &mut u8)\n    ensures { λ _. ⌜ now (x .exit) ≡ P (now (x .entry)) ⌝ }\n{\n    *x += 1;\n}\n",
         "pub(crate) fn g() -> u8 { 1 }\nfn h(x: u8) -> u8 requires { ⌜ x ≡ x ⌝ } { x }\npub fn f() -> u8 ensures { λ r. ⌜ P r ⌝ } { 0 }",
     ];
     for source in sources {
@@ -250,6 +256,11 @@ fn contracts_that_say_too_little_are_seen() {
     assert_eq!(seen(written, F), ["m::f: says nothing of `x`"]);
     let read = "pub fn f(x: &[u8]) -> u8 ensures { λ r. ⌜ P x r ⌝ } { 0 }";
     assert_eq!(seen(read, F), ["m::f: says nothing of `x`"]);
+    let unnamed = "pub fn f(x: u8) -> u8 ensures { λ _. ⌜ P x _ ⌝ } { x }";
+    assert_eq!(
+        seen(unnamed, F),
+        ["m::f: names neither the result nor what is written", "m::f: says nothing of its result"]
+    );
     let silent = "pub fn f(x: &mut u8) -> u8 ensures { λ r. ⌜ P (now (x .exit)) ⌝ } { 0 }";
     assert_eq!(seen(silent, F), ["m::f: says nothing of its result"]);
 }

@@ -29,5 +29,6 @@ echo "bench: built"
 cc -std=c99 -pedantic -Wall -Wextra -Werror -Iinclude examples/follow.c target/staticlib/libcapi.a -o target/follow
 target/follow < examples/follow.input | diff examples/follow.expected -
 echo "examples/follow.c: as expected"
+tests/c/check target/staticlib/libcapi.a
 
 tail -n 1 "$log"

@@ -1,7 +1,4 @@
 //! README: links libcapi.a, whose directory is in CAPI_LIB_DIR, to the program `bench`.
-//!
-//! The archive goes to the linker as a plain argument: a library without std has a panic handler
-//! of its own, and with double definitions allowed the first one found, that of std, is kept.
 
 /// Reads CAPI_LIB_DIR and hands the archive to the linker.
 fn main() {
@@ -13,6 +10,5 @@ fn main() {
     };
     let archive = std::path::Path::new(&dir).join("libcapi.a");
     println!("cargo:rerun-if-changed={}", archive.display());
-    println!("cargo:rustc-link-arg-bins=-Wl,--allow-multiple-definition");
     println!("cargo:rustc-link-arg-bins={}", archive.display());
 }

@@ -18,10 +18,10 @@ static const char rule[] = "(p&!q) U (a&q&!p)";
 /* The studio is ready again and again. */
 static const char condition[] = "a";
 
-static uint8_t moves[AIRTABLE_STATES << (INPUTS + OUTPUTS)];
-static uint8_t marks[AIRTABLE_STATES];
-static uint8_t station[AIRTABLE_STATES << INPUTS];
-static uint8_t outside[AIRTABLE_STATES];
+static uint8_t moves[AIRTABLE_MOVES_SIZE(INPUTS, OUTPUTS)];
+static uint8_t marks[AIRTABLE_MARKS_SIZE(INPUTS, OUTPUTS)];
+static uint8_t station[AIRTABLE_STATION_SIZE(INPUTS, OUTPUTS)];
+static uint8_t outside[AIRTABLE_OUTSIDE_SIZE(INPUTS, OUTPUTS)];
 
 /* Says which refusal a call came to. */
 static int refused(uint8_t number, size_t place)
@@ -39,7 +39,7 @@ int main(void)
         (const uint8_t *)rule, strlen(rule), (const uint8_t *)condition, strlen(condition),
         moves, sizeof moves, marks, sizeof marks, station, sizeof station, outside, sizeof outside,
         &can, &n, &place);
-    if (number != 0)
+    if (number != AIRTABLE_SERVED)
         return refused(number, place);
     printf("%s %zu\n", can ? "can" : "cannot", n);
     if (!can)
@@ -48,7 +48,7 @@ int main(void)
     while (!reached && scanf("%zu", &input) == 1) {
         number = airtable_follow(INPUTS, OUTPUTS, n, moves, sizeof moves, marks, sizeof marks, station, sizeof station,
             input, &state, &reached, &row, &output, &place);
-        if (number != 0)
+        if (number != AIRTABLE_SERVED)
             return refused(number, place);
         if (!row) {
             puts("no row");

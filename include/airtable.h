@@ -7,8 +7,8 @@
  *
  * First use: can the station bring about a rule, and what does it do on input 1?
  *
- *     uint8_t moves[AIRTABLE_STATES << 2], marks[AIRTABLE_STATES];      // i = 1, o = 1: 128 * 2^(i+o)
- *     uint8_t station[AIRTABLE_STATES << 1], outside[AIRTABLE_STATES];  // 128 * 2^i
+ *     uint8_t moves[AIRTABLE_MOVES_SIZE(1, 1)], marks[AIRTABLE_MARKS_SIZE(1, 1)];          // i = 1, o = 1
+ *     uint8_t station[AIRTABLE_STATION_SIZE(1, 1)], outside[AIRTABLE_OUTSIDE_SIZE(1, 1)];
  *     uint8_t can, reached = 0, row, output;
  *     size_t n, place, state = 0;
  *     if (airtable_solve_rule(1, 1, AIRTABLE_FAIR, (const uint8_t *)"pUa", 3, (const uint8_t *)"a", 1,
@@ -22,7 +22,7 @@
  *
  * What a call returns. 0: it was served. Any other number: it was refused, for the first of these reasons that holds
  * in the order that stands at the call. `place` is the place or index where one is named here, and 0 in all other
- * cases, also when the call was served.
+ * cases, also when the call was served. The numbers have names, AIRTABLE_REFUSED_.. below.
  *
  *      1  i or o is above 4
  *      2  the rule or the condition has more than 255 bytes
@@ -52,7 +52,7 @@
  *
  * A call keeps nothing and allocates nothing, so several threads may call at once, each with its own memory. The
  * deepest texts, with 127 parentheses inside one another, take just under 200 KB of stack, and ordinary ones less
- * than 40 KB. The library is for x86-64 Linux.
+ * than 40 KB. The library is for x86-64 Linux. Of the C library it needs memcpy and memset and nothing else.
  */
 #ifndef AIRTABLE_H
 #define AIRTABLE_H
@@ -64,17 +64,50 @@
 extern "C" {
 #endif
 
-/* The modes: what the outside promises of the condition. */
+/*
+ * The version of this interface. It is 0 before the first release, and until then anything here may change without a
+ * new number. From 1 on it grows by 1 with every change after which a program written for the version before might not
+ * compile or might get other answers.
+ */
+#define AIRTABLE_VERSION 0
+
+/* The modes: what the outside promises of the condition. Every number but 1 means fair. */
 #define AIRTABLE_FAIR 0   /* it holds again and again */
-#define AIRTABLE_STABLE 1 /* from some step on it holds always; every number but 0 means this */
+#define AIRTABLE_STABLE 1 /* from some step on it holds always */
+
+/* What a call returns: served, or the number of the refusal in the table above. */
+#define AIRTABLE_SERVED 0
+#define AIRTABLE_REFUSED_ALPHABET 1
+#define AIRTABLE_REFUSED_TEXT_LENGTH 2
+#define AIRTABLE_REFUSED_BUFFER 3
+#define AIRTABLE_REFUSED_RULE_TEXT 4
+#define AIRTABLE_REFUSED_RULE_NODES 5
+#define AIRTABLE_REFUSED_RULE_OPERATORS 6
+#define AIRTABLE_REFUSED_CONDITION_TEXT 7
+#define AIRTABLE_REFUSED_CONDITION_NODES 8
+#define AIRTABLE_REFUSED_STATE_COUNT 9
+#define AIRTABLE_REFUSED_GIVEN_COUNT 10
+#define AIRTABLE_REFUSED_MOVE 11
+#define AIRTABLE_REFUSED_STATE 12
+#define AIRTABLE_REFUSED_VALUE 13
 
 /* The number of states for which there must be room in the buffers that a solving call writes. */
 #define AIRTABLE_STATES 128
 
 /*
+ * The bytes to lend for each buffer that a solving call writes, for i and o from 0 to 4; constant where i and o are.
+ * They do for every call, since no automaton has more states.
+ */
+#define AIRTABLE_MOVES_SIZE(i, o) ((size_t)AIRTABLE_STATES << ((i) + (o)))
+#define AIRTABLE_MARKS_SIZE(i, o) ((size_t)AIRTABLE_STATES)
+#define AIRTABLE_STATION_SIZE(i, o) ((size_t)AIRTABLE_STATES << (i))
+#define AIRTABLE_OUTSIDE_SIZE(i, o) ((size_t)AIRTABLE_STATES)
+
+/*
  * Solves the game of a rule. Refusals in this order: 1, 2, 3, 4, 5, 6, 7, 8, 9.
  *
- * Lend at least 128 * 2^(i+o) bytes for moves, 128 for marks, 128 * 2^i for station and 128 for outside. When served:
+ * Lend at least 128 * 2^(i+o) bytes for moves, 128 for marks, 128 * 2^i for station and 128 for outside (the sizes
+ * above). When served:
  *   can      1 if the station wins from state 0, else 0
  *   n        the number of states; they are 0 to n - 1, and state 0 is the start
  *   moves    byte s * 2^(i+o) + letter: the state after that letter in state s

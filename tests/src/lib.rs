@@ -15,6 +15,8 @@
 //! listing    the program `airtable`, bytes to bytes
 //! large      rules with about 128 states
 //! header     the library in C, for the programs that call it
+//! prototypes what include/airtable.h declares, read from its text
+//! signatures the public functions of the crates, read from their sources
 //! chance, makers  seeded random inputs for the comparing programs
 
 pub mod automaton;
@@ -28,7 +30,9 @@ pub mod listing;
 pub mod longest;
 pub mod makers;
 pub mod meaning;
+pub mod prototypes;
 pub mod reader;
+pub mod signatures;
 pub mod tables;
 pub mod tree;
 pub mod viable;

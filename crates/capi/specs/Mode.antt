@@ -4,9 +4,9 @@ use Prim.Native.Nat.{ℕ}
 use mathlib.Core.Bool.{Bool, not, cond}
 use lib.Dec.{eqb}
 
--- a mode is fair at 0, and stable at any other number
+-- a mode is stable at 1, and fair at any other number
 abbrev pub fairAt : ℕ → Bool
-fairAt mode = eqb mode 0
+fairAt mode = not (eqb mode 1)
 
 -- a number is true unless it is 0
 abbrev pub truthOf : ℕ → Bool

@@ -4,14 +4,14 @@ ghost use Rattle.game.specs.Arena.{isFair};
 ghost use Rattle.capi.specs.Mode.{fairAt, truthOf, flagOf};
 use game::answer::Mode;
 
-// The mode at a number: fair at 0, and stable at any other.
+// The mode at a number: stable at 1, and fair at any other.
 pub(crate) fn mode_at(mode: u8) -> Mode
     ensures { λ r. ⌜ isFair r ≡ fairAt mode ⌝ }
 {
-    if mode == 0 {
-        return Mode::Fair;
+    if mode == 1 {
+        return Mode::Stable;
     }
-    Mode::Stable
+    Mode::Fair
 }
 
 // Whether a number is not 0.

@@ -28,11 +28,12 @@ pub struct Followed {
 /// A byte no call would hand back by itself.
 pub const ODD: u8 = 0xA5;
 
-/// The mode as a byte: 0 is fair, any other stable.
+/// The mode as a byte: 1 is stable, any other fair.
 pub fn mode_byte(mode: Mode, any: u8) -> u8 {
     match mode {
-        Mode::Fair => 0,
-        Mode::Stable => any.max(1),
+        Mode::Stable => 1,
+        Mode::Fair if any == 1 => 0,
+        Mode::Fair => any,
     }
 }
 

@@ -1,10 +1,14 @@
 -- `capi::flags::mode_at` meets its contract: each return is the case that the test decided.
 -- Assumes nothing.
-use mathlib.Core.Path.{sym}
+use mathlib.Core.Bool.{not}
+use mathlib.Core.Path.{sym, ap}
 use borrow.Author.Tests.{eq-eqb, ne-eqb}
 use Rattle.capi.proofs.flags.mode_at.Statement.{statement}
 use Rattle.capi.proofs.flags.mode_at.Tie as tie
 
 pub mode-at-spec : {M : Type 1} → statement M
 mode-at-spec =
-    tie.close (tie.spec (λ c. sym (eq-eqb (c .before .args .mode) 0 (c .if1 .taken))) (λ c. sym (ne-eqb (c .before .args .mode) 0 (c .if1 .left))))
+    tie.close
+    (tie.spec
+    (λ c. sym (ap not (eq-eqb (c .before .args .mode) 1 (c .if1 .taken))))
+    (λ c. sym (ap not (ne-eqb (c .before .args .mode) 1 (c .if1 .left)))))

@@ -23,16 +23,16 @@ take-least n l =
     (λ f. let h : length l ≤ n = (let g = leb-false n (length l) f in omega arith) in rw (min-eq-right h) (take-all (length l) l (omega arith) ∙ sym (take-all n l h)))
 
 -- what the listing call writes into an output of that size is the whole text
-pub responded : (lent : List ℕ) (got size : ℕ) (output output′ : List ℕ) (r : ℕ) → length lent ≡ inputSize → length output ≡ outputSize → size ≡ min got (length lent)
-    → Listed (take size lent) output output′ r → Responded lent got output output′ r
-responded lent got size output output′ r a b e l =
+pub responded : (bytes : List ℕ) (got size : ℕ) (output output′ : List ℕ) (r : ℕ) → length bytes ≡ inputSize → length output ≡ outputSize → size ≡ min got (length bytes)
+    → Listed (take size bytes) output output′ r → Responded bytes got output output′ r
+responded bytes got size output output′ r a b e l =
     let w = listed-whole l (omega arith) in
     let h : length (l .text) ≤ length output = (let g = prints-length (l .prints) in omega arith) in
     record {
       input-size = a;
       output-size = b;
       text = l .text;
-      prints = subst (λ (i : List ℕ). Prints i (l .text)) (ap (λ (n : ℕ). take n lent) e ∙ take-least got lent) (l .prints);
+      prints = subst (λ (i : List ℕ). Prints i (l .text)) (ap (λ (n : ℕ). take n bytes) e ∙ take-least got bytes) (l .prints);
       count = w .0;
       whole = w .1;
       rest = rw (w .0, l .written, take-all (length output) (l .text) h) (drop-append-seam (l .text) (drop (length (l .text)) output));

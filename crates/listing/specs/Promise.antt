@@ -58,17 +58,17 @@ pub record Listed (input output output′ : List ℕ) (r : ℕ) : Type 0 where
 abbrev pub inputSize : ℕ
 inputSize = suc inputLimit
 
--- the bytes of its output: no text that it prints is longer (prints-length, proofs/BoundLaws.antt)
+-- the bytes that it has room for in its output: no text that it prints is longer (proofs/BoundLaws.antt)
 abbrev pub outputSize : ℕ
 outputSize = 8192
 
--- the promise of the program's call: the first `got` bytes of what is lent are the input, and all of them where `got` is larger; the first r bytes of the output
--- are the whole text that the program prints for it, and the rest of the output is as it was
-pub record Responded (lent : List ℕ) (got : ℕ) (output output′ : List ℕ) (r : ℕ) : Type 0 where
-  pub input-size : length lent ≡ inputSize
+-- the promise of the program's call: of the bytes that are lent the first `got` are the input, or all of them where `got` is larger. The first r bytes of the
+-- output are the whole text that the program prints for it, and the rest of the output is as it was
+pub record Responded (bytes : List ℕ) (got : ℕ) (output output′ : List ℕ) (r : ℕ) : Type 0 where
+  pub input-size : length bytes ≡ inputSize
   pub output-size : length output ≡ outputSize
   pub text : List ℕ
-  pub prints : Prints (take got lent) text
+  pub prints : Prints (take got bytes) text
   pub count : r ≡ length text
   pub whole : take r output′ ≡ text
   pub rest : drop r output′ ≡ drop r output

@@ -24,7 +24,7 @@ fn least(a: usize, b: usize) -> usize
 pub fn respond(input: &[u8; INPUT_SIZE], got: usize, output: &mut [u8; OUTPUT_SIZE]) -> usize
     ensures { λ r. ⌜ Responded (now (input .entry)) got (now (output .entry)) (now (output .exit)) r ⌝ }
 {
-    let lent: &[u8] = input;
-    let size = least(got, lent.len());
-    list(&lent[..size], output)
+    let bytes: &[u8] = input;
+    let size = least(got, bytes.len());
+    list(&bytes[..size], output)
 }

@@ -27,7 +27,7 @@ use Rattle.game.specs.declared.answer.Answer.the-variants.{Refused}
 use Rattle.game.specs.Answer.{verdictOf}
 use Rattle.game.specs.Rule.{Buffers, shortBuffers, ruleRefusal, Served, RuleSolved}
 use Rattle.listing.specs.Listing.{listing, stateLine, canWord, cannotWord}
-use Rattle.listing.specs.Promise.{Prints, Listed}
+use Rattle.listing.specs.Promise.{outputSize, Prints, Listed}
 use Rattle.listing.proofs.LengthLaws.{system-length, environment-length, line-length, verdict-length, refusal-length}
 use Rattle.listing.proofs.PromiseLaws.{no-number, served-states}
 
@@ -107,31 +107,31 @@ module _ {fair : Bool} {i o : ℕ} {rule condition : List ℕ} {old new : Buffer
         (λ w. environment-length (2 ^ i) p (new .system) (new .environment) s (let b = w .byte in omega arith))
         (v .tables .won s h))
 
-    served-length : (can : Bool) → Served fair i o rule condition old new (m .states) can → length (listing i new (verdictOf can (m .states))) ≤ 8192
+    served-length : (can : Bool) → Served fair i o rule condition old new (m .states) can → length (listing i new (verdictOf can (m .states))) ≤ outputSize
     served-length true v = verdict-length (2 ^ i) (new .accepting) (new .system) (new .environment) canWord (m .states) (omega arith) few-states (served-line v)
     served-length false v = verdict-length (2 ^ i) (new .accepting) (new .system) (new .environment) cannotWord (m .states) (omega arith) few-states (served-line v)
 
-  pub listing-length : length (listing i new r) ≤ 8192
+  pub listing-length : length (listing i new r) ≤ outputSize
   listing-length =
       on (eqb (numberOf (m .refusal)) 0)
       (λ t.
       let z : numberOf (m .refusal) ≡ 0 = eqb-true (numberOf (m .refusal)) 0 t in
       let v = m .served (no-number (m .refusal) z) in
-      subst (λ (x : Answer). length (listing i new x) ≤ 8192) (sym (v .1)) (served-length z (v .0) (v .2)))
+      subst (λ (x : Answer). length (listing i new x) ≤ outputSize) (sym (v .1)) (served-length z (v .0) (v .2)))
       (λ f.
       let e : r ≡ Refused (m .refusal) = m .refused (λ n. eqb-false (numberOf (m .refusal)) 0 f (ap numberOf n)) .0 in
-      subst (λ (x : Answer). length (listing i new x) ≤ 8192) (sym e) (refusal-length (numberOf (m .refusal)) (placeOf (m .refusal)) (number-small (m .refusal)) refusal-place))
+      subst (λ (x : Answer). length (listing i new x) ≤ outputSize) (sym e) (refusal-length (numberOf (m .refusal)) (placeOf (m .refusal)) (number-small (m .refusal)) refusal-place))
 
 -- what the program prints has at most 8,192 bytes
-pub prints-length : {input text : List ℕ} → Prints input text → length text ≤ 8192
+pub prints-length : {input text : List ℕ} → Prints input text → length text ≤ outputSize
 prints-length {input} {text} p =
     ⊎-elim
-    (λ q. subst (λ (t : List ℕ). length t ≤ 8192) (sym (q .answers .listed)) (listing-length (q .answers .solved)))
-    (λ q. subst (λ (t : List ℕ). length t ≤ 8192) (sym (q .refused)) (refusal-length 14 0 (omega arith) (omega arith)))
+    (λ q. subst (λ (t : List ℕ). length t ≤ outputSize) (sym (q .answers .listed)) (listing-length (q .answers .solved)))
+    (λ q. subst (λ (t : List ℕ). length t ≤ outputSize) (sym (q .refused)) (refusal-length 14 0 (omega arith) (omega arith)))
     p
 
 -- an output of that size holds the whole text, and nothing else among its first r bytes
-pub listed-whole : {input output output′ : List ℕ} {r : ℕ} (l : Listed input output output′ r) → 8192 ≤ length output → (r ≡ length (l .text)) × (take r output′ ≡ l .text)
+pub listed-whole : {input output output′ : List ℕ} {r : ℕ} (l : Listed input output output′ r) → outputSize ≤ length output → (r ≡ length (l .text)) × (take r output′ ≡ l .text)
 listed-whole {input} {output} {output′} {r} l h =
     let b : length (l .text) ≤ length output = let g = prints-length (l .prints) in omega arith in
     let e : r ≡ length (l .text) = l .count ∙ min-eq-left b in

@@ -11,6 +11,7 @@ use Rattle.reader.proofs.BoolLaws.{on}
 use Rattle.listing.specs.Decimal.{digit, digits, decimal}
 use Rattle.listing.specs.Input.{newline, blank}
 use Rattle.listing.specs.Listing.{fields, goalMark, winnerFields, stateLine, stateLines, refusalLine, refusedWord, verdictLines}
+use Rattle.listing.specs.Promise.{outputSize}
 use Rattle.listing.proofs.DecimalLaws.{decimal-small, decimal-large}
 use Rattle.listing.proofs.RenderingLaws.{winner-system, winner-environment}
 
@@ -81,13 +82,13 @@ module _ (inputs : ℕ) (accepting system environment : List ℕ) where
       let ih = lines-length n h (suc s) count (omega arith) in
       omega (arith, length-append (stateLine inputs accepting system environment s) (stateLines inputs accepting system environment (suc s) count), h s (omega arith))
 
-  pub verdict-length : (word : List ℕ) (n : ℕ) → length word ≤ 7 → n ≤ 128 → ((s : ℕ) → s < n → length (stateLine inputs accepting system environment s) ≤ 56) → length (verdictLines inputs accepting system environment word n) ≤ 8192
+  pub verdict-length : (word : List ℕ) (n : ℕ) → length word ≤ 7 → n ≤ 128 → ((s : ℕ) → s < n → length (stateLine inputs accepting system environment s) ≤ 56) → length (verdictLines inputs accepting system environment word n) ≤ outputSize
   unfolding verdictLines
   verdict-length word n w b h =
       let r : List ℕ = stateLines inputs accepting system environment 0 n in
       omega (arith, length-append word (decimal n ++ ((newline ∷ []) ++ r)), length-append (decimal n) ((newline ∷ []) ++ r), length-append (newline ∷ []) r, decimal-three n (omega arith), lines-length n h 0 n (omega arith))
 
-pub refusal-length : (number place : ℕ) → number ≤ 14 → place ≤ 255 → length (refusalLine number place) ≤ 8192
+pub refusal-length : (number place : ℕ) → number ≤ 14 → place ≤ 255 → length (refusalLine number place) ≤ outputSize
 unfolding refusalLine
 refusal-length number place h g =
     omega (arith, length-append refusedWord (decimal number ++ ((blank ∷ decimal place) ++ (newline ∷ []))), length-append (decimal number) ((blank ∷ decimal place) ++ (newline ∷ [])), length-append (blank ∷ decimal place) (newline ∷ []), decimal-any number, decimal-any place)

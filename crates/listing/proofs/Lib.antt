@@ -7,4 +7,5 @@ pub mod FillingLaws
 pub mod PromiseLaws
 pub mod LengthLaws
 pub mod BoundLaws
+pub mod ResponseLaws
 pub mod ExampleLaws

@@ -1,7 +1,7 @@
--- The promise of the listing call: what the program prints for an input, and what is written of it. It rests on the rule call's promise:
--- the listing is that of an answer and of four buffers for which that promise holds.
+-- The promises of the listing call and of the program's call: what the program prints for an input, and what is written of it. They rest on the rule call's
+-- promise: the listing is that of an answer and of four buffers for which that promise holds.
 -- Assumes nothing.
-use Prim.Native.Nat.{ℕ, min}
+use Prim.Native.Nat.{ℕ, suc, min}
 use mathlib.Core.Path.{_≡_}
 use mathlib.Core.Bool.{Bool}
 use mathlib.Core.List.{List, _++_}
@@ -9,7 +9,7 @@ use mathlib.Core.Logic.{_⊎_}
 use lib.ListN.{length, take, drop}
 use Rattle.game.specs.declared.answer.Answer.{Answer}
 use Rattle.game.specs.Rule.{Buffers, RuleSolved}
-use Rattle.listing.specs.Input.{Asks}
+use Rattle.listing.specs.Input.{inputLimit, Asks}
 use Rattle.listing.specs.Listing.{listing, malformed}
 
 -- buffers of the size that four inputs and four outputs need
@@ -47,9 +47,28 @@ pub record NoRequest (input text : List ℕ) : Type 0 where
 abbrev pub Prints : List ℕ → List ℕ → Type 0
 Prints input text = Request input text ⊎ NoRequest input text
 
--- the whole promise: the output begins with the text as far as it fits, the rest of it is as it was, and r says how much of it is the text's
+-- the listing call's promise: the output begins with the text as far as it fits, the rest of it is as it was, and r says how much of it is the text's
 pub record Listed (input output output′ : List ℕ) (r : ℕ) : Type 0 where
   pub text : List ℕ
   pub prints : Prints input text
   pub written : output′ ≡ take (length output) text ++ drop (length text) output
   pub count : r ≡ min (length text) (length output)
+
+-- the bytes that the program reads of its input at most: one more than an input may have, so that a longer one is seen as such
+abbrev pub inputSize : ℕ
+inputSize = suc inputLimit
+
+-- the bytes that it has room for in its output: no text that it prints is longer (proofs/BoundLaws.antt)
+abbrev pub outputSize : ℕ
+outputSize = 8192
+
+-- the promise of the program's call: of the bytes that are lent the first `got` are the input, or all of them where `got` is larger. The first r bytes of the
+-- output are the whole text that the program prints for it, and the rest of the output is as it was
+pub record Responded (bytes : List ℕ) (got : ℕ) (output output′ : List ℕ) (r : ℕ) : Type 0 where
+  pub input-size : length bytes ≡ inputSize
+  pub output-size : length output ≡ outputSize
+  pub text : List ℕ
+  pub prints : Prints (take got bytes) text
+  pub count : r ≡ length text
+  pub whole : take r output′ ≡ text
+  pub rest : drop r output′ ≡ drop r output

@@ -2,4 +2,5 @@
 mod input;
 pub mod list;
 mod render;
+pub mod respond;
 mod write;

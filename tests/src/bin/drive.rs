@@ -1,6 +1,7 @@
 //! README: runs the built program `airtable` over seeded inputs on its standard input and compares
 //! its standard output with the solver's listing. Where table bytes are free the listing is taken
-//! apart and its rows are judged. Files named on the command line come first.
+//! apart and its rows are judged. Standard error stays empty, but where the program cannot read or
+//! write: that is tried first, then the files named on the command line.
 //!
 //!   drive PATH_TO_AIRTABLE [--seed N] [--times K] [FILE.rule ..]
 
@@ -15,8 +16,9 @@ use solver::reader::read;
 use solver::tree::condition_mask;
 use solver::wording::Wording;
 use std::collections::BTreeMap;
-use std::io::{Read, Write};
-use std::process::{Command, Stdio};
+use std::fs::File;
+use std::io::Write;
+use std::process::{Command, Output, Stdio};
 
 /// Inputs by hand: the readings of 01, the printed example, shapes that are no four lines.
 const BY_HAND: &[&[u8]] = &[
@@ -80,17 +82,22 @@ const BY_HAND: &[&[u8]] = &[
     b"1 1\n\n1\nFp\n",
 ];
 
+/// Sizes of four lines, each with the bytes behind them: about 2,048 in all, and far above.
+const SIZES: &[(usize, &[u8])] =
+    &[(2047, b""), (2047, b" "), (2048, b""), (2048, b" "), (2048, b"\n"), (2049, b""), (2050, b""), (100_000, b"")];
+
+/// Four lines of that size, and bytes behind them.
+fn sized_input(size: usize, behind: &[u8]) -> Vec<u8> {
+    let mut bytes = b"1 1\nfair\n1\np".to_vec();
+    bytes.resize(size - 1, b' ');
+    bytes.push(b'\n');
+    [&bytes, behind].concat()
+}
+
 /// An input of some length with both ends of the limits; sometimes a byte too many behind four lines.
 fn long_input(chance: &mut Chance) -> Vec<u8> {
-    let mut bytes = b"1 1\nfair\n1\n".to_vec();
-    let whole = chance.pick(&[266, 268, 1000, 2046, 2047, 2048, 2048, 2048, 2048, 2049, 2050, 5000]);
-    bytes.push(b'p');
-    bytes.resize(whole - 1, b' ');
-    bytes.push(b'\n');
-    if chance.one_in(3) {
-        bytes.push(b' ');
-    }
-    bytes
+    let size = chance.pick(&[266, 268, 1000, 2046, 2047, 2048, 2048, 2048, 2048, 2049, 2050, 5000]);
+    sized_input(size, if chance.one_in(3) { b" " } else { b"" })
 }
 
 /// Texts at the limits: 64 nodes or 65, 255 bytes or 256, five operators or six; sometimes both
@@ -144,6 +151,9 @@ fn input(chance: &mut Chance, k: usize) -> Vec<u8> {
     if let Some(bytes) = BY_HAND.get(k) {
         return bytes.to_vec();
     }
+    if let Some((size, behind)) = SIZES.get(k - BY_HAND.len()) {
+        return sized_input(*size, behind);
+    }
     match chance.below(12) {
         0 => long_input(chance),
         10 => limit_input(chance),
@@ -157,25 +167,46 @@ fn input(chance: &mut Chance, k: usize) -> Vec<u8> {
     }
 }
 
-/// Runs the program on an input and hands back what it prints.
-fn run(program: &str, bytes: &[u8]) -> Result<Vec<u8>, String> {
+/// Runs the program on an input and hands back what it prints, on standard output and on standard error.
+fn run(program: &str, bytes: &[u8]) -> Result<Output, String> {
     let mut child = Command::new(program)
         .stdin(Stdio::piped())
         .stdout(Stdio::piped())
+        .stderr(Stdio::piped())
         .spawn()
         .map_err(|error| format!("cannot start {program}: {error}"))?;
     let mut stdin = child.stdin.take().expect("a pipe");
     // The program may stop reading early; that is no fault of the input.
     let _ = stdin.write_all(bytes);
     drop(stdin);
-    let mut text = vec![];
-    child.stdout.take().expect("a pipe").read_to_end(&mut text).map_err(|error| error.to_string())?;
-    child.wait().map_err(|error| error.to_string())?;
-    Ok(text)
+    child.wait_with_output().map_err(|error| error.to_string())
 }
 
-/// Compares a listing: refusals exactly, else the head exactly and the rows by the judge.
-fn compare(bytes: &[u8], text: &[u8]) -> Result<String, String> {
+/// Runs the program where it cannot read (a directory) and where it cannot write (a full device). It
+/// says so on standard error and prints nothing.
+fn try_failures(program: &str) {
+    let open = |name: &str| Stdio::from(File::options().read(true).open(name).expect(name));
+    let full = || Stdio::from(File::options().write(true).open("/dev/full").expect("/dev/full"));
+    let cases = [
+        (open("/"), Stdio::piped(), "airtable: cannot read standard input\n"),
+        (open("/dev/null"), full(), "airtable: cannot write standard output\n"),
+    ];
+    for (input, output, message) in cases {
+        let ended = Command::new(program).stdin(input).stdout(output).stderr(Stdio::piped()).output();
+        let ended = ended.unwrap_or_else(|error| panic!("cannot start {program}: {error}"));
+        if !ended.stdout.is_empty() || ended.stderr != message.as_bytes() {
+            println!("DIFFERENCE in a failure: {ended:?} in place of {message:?}");
+            std::process::exit(1);
+        }
+    }
+}
+
+/// Compares a listing: refusals exactly, else the head exactly and the rows by the judge. Nothing
+/// stands on standard error.
+fn compare(bytes: &[u8], text: &[u8], error: &[u8]) -> Result<String, String> {
+    if !error.is_empty() {
+        return Err(format!("standard error has \"{}\"", error.escape_ascii()));
+    }
     let wanted = airtable(bytes);
     if wanted.starts_with(b"refused") {
         return match text == wanted {
@@ -213,8 +244,8 @@ fn files() -> Vec<(String, Vec<u8>)> {
 
 /// Runs the program on one input and hands back the kind of its answer; ends with 1 at a difference.
 fn tried(program: &str, name: &str, bytes: &[u8]) -> String {
-    let text = run(program, bytes).unwrap_or_else(|what| panic!("{what}"));
-    compare(bytes, &text).unwrap_or_else(|what| {
+    let Output { stdout: text, stderr: error, .. } = run(program, bytes).unwrap_or_else(|what| panic!("{what}"));
+    compare(bytes, &text, &error).unwrap_or_else(|what| {
         println!("DIFFERENCE in {name}: {what}");
         println!("input   \"{}\"", bytes.escape_ascii());
         println!("printed \"{}\"", text.escape_ascii());
@@ -229,6 +260,7 @@ fn main() {
     let program = std::env::args().nth(1).expect(usage);
     let (seed, times) = (option("--seed", 1), option("--times", 1));
     let mut counts = BTreeMap::new();
+    try_failures(&program);
     for (name, bytes) in files() {
         *counts.entry(tried(&program, &name, &bytes)).or_insert(0) += 1;
     }

@@ -1,7 +1,8 @@
--- The theorem: every row that 01 marks as proved is a reading. Each has a certificate, and one computation tests them all.
+-- The theorem: every row that 01 marks as proved is a reading. Each has a certificate, and one computation tests them all. There are eleven rows.
 -- Assumes nothing.
-use mathlib.Core.Path.{refl}
+use mathlib.Core.Path.{_≡_, refl}
 use mathlib.Core.List.{List, [], _∷_}
+use lib.ListN.{length}
 use Rattle.reader.specs.Formula.{size, operators}
 use Rattle.reader.specs.Marks.{kindIn, allowedBy, isTemporal, amongOf, kindOf, operandOf, unaryOf, binaryOf}
 use Rattle.reader.specs.Grammar.{marks}
@@ -68,3 +69,8 @@ unfolding rows certificates allPass passes passesWith textsPass sizesPass countP
     maskOf flagsOf transitionsOf listOf stateCount states discovered look target extend position accepts after start vectors endVector present ends coords value gather word bit
     marks binaryOf unaryOf operandOf kindOf amongOf isTemporal allowedBy kindIn operators size
 readings = all-readings rows certificates refl
+
+-- as many as 01 marks
+pub eleven : length rows ≡ 11
+unfolding rows
+eleven = refl

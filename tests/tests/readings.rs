@@ -54,8 +54,20 @@ fn proved_readings() {
     }
 }
 
-/// Where the theorem of the proved readings is stated.
+/// Where the theorems of the proved readings and of the printed example are stated.
 const SPECS: &str = concat!(env!("CARGO_MANIFEST_DIR"), "/../crates/readings/specs");
+
+/// One of the files there.
+fn specs(file: &str) -> String {
+    fs::read_to_string(format!("{SPECS}/{file}")).unwrap()
+}
+
+/// The lines of a definition, which goes up to an empty line, without its comments.
+fn definition<'a>(source: &'a str, name: &str) -> Vec<&'a str> {
+    let (_, rest) = source.split_once(&format!("\n{name} =\n")).unwrap();
+    let lines = rest.lines().map(str::trim).take_while(|line| !line.is_empty());
+    lines.filter(|line| !line.starts_with("--")).collect()
+}
 
 /// The text of a list of bytes, written as in `70 ∷ 112 ∷ []`.
 fn text_of(list: &str) -> String {
@@ -75,9 +87,8 @@ fn row_of(line: &str) -> (String, Mode, String, bool, usize) {
 
 /// The lines of the theorem's rows, in order, and nothing beside them.
 fn row_lines(source: &str) -> Vec<&str> {
-    let (_, list) = source.split_once("\nrows =\n").unwrap();
-    let lines = list.lines().map(str::trim).filter(|line| !line.starts_with("--"));
-    let mut lines: Vec<&str> = lines.map(|line| line.strip_prefix("∷ ").unwrap_or(line)).collect();
+    let lines = definition(source, "rows");
+    let mut lines: Vec<&str> = lines.iter().map(|line| line.strip_prefix("∷ ").unwrap_or(line)).collect();
     assert_eq!(lines.pop(), Some("[]"));
     lines
 }
@@ -108,11 +119,22 @@ fn changes(line: &str) -> Vec<String> {
     (0..words.len()).filter_map(changed).collect()
 }
 
+/// What the words of a row stand for.
+const ROW: [&str; 2] = [
+    "row rule mode condition can n = rowOf 1 1 rule mode condition can n",
+    "rowOf i o rule mode condition can n = record { inputs = i; outputs = o; rule = rule; mode = mode; condition = condition; can = can; count = n }",
+];
+
 #[test]
 fn the_theorem_has_the_proved_readings() {
-    let source = fs::read_to_string(format!("{SPECS}/Rows.antt")).unwrap();
+    let source = specs("Rows.antt");
     let lines = row_lines(&source);
     assert!(are_proved(&lines));
+    let reading = specs("Reading.antt");
+    assert!(
+        ROW.iter().all(|line| reading.lines().any(|found| found == *line)),
+        "the words of a row stand for something else"
+    );
     for k in 0..lines.len() {
         let mut fewer = lines.clone();
         fewer.remove(k);
@@ -149,10 +171,20 @@ fn a_rule_with_128_states_is_served() {
     assert_eq!(solve(4, 4, Fair, "1", rule).unwrap().n, 128);
 }
 
+/// 01's printed example: the four lines, and the listing.
+const EXAMPLE: (&str, &str) = ("1 0\nfair\n1\nFa\n", "cannot 3\n0 - O 0\n1 - O 0\n2 * S 0 0\n");
+
 #[test]
 fn printed_example() {
-    let text = airtable(b"1 0\nfair\n1\nFa\n");
-    assert_eq!(String::from_utf8(text).unwrap(), "cannot 3\n0 - O 0\n1 - O 0\n2 * S 0 0\n");
+    let text = airtable(EXAMPLE.0.as_bytes());
+    assert_eq!(String::from_utf8(text).unwrap(), EXAMPLE.1);
+}
+
+#[test]
+fn the_theorem_has_the_printed_example() {
+    let source = specs("Example.antt");
+    let text = |name| text_of(&definition(&source, name).join(" "));
+    assert_eq!((&text("exampleInput")[..], &text("exampleListing")[..]), EXAMPLE);
 }
 
 #[test]

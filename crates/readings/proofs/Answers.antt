@@ -36,11 +36,11 @@ same-verdict fair φ G σ τ true false v w = absurd (one-winner fair G σ (w .0
 same-verdict fair φ G σ τ false true v w = absurd (one-winner fair G (w .0) τ 0 (w .1) (v .environment refl .wins))
 same-verdict fair φ G σ τ false false v w = refl
 
--- what the buffers hold after a served call, in the row's terms
-pub record Held (r : Row) (reading : Reading r) (old new : Buffers) (can : Bool) : Type 0 where
+-- what the buffers hold after a served call, in the row's terms, where its texts have the formulas φ and κ
+pub record Held (r : Row) (φ κ : Formula) (old new : Buffers) (can : Bool) : Type 0 where
   pub mask : ℕ
-  pub judges : Judges (reading .assumption) (r .inputs) mask
-  pub automaton : Automaton (reading .formula) (lettersOf r) (r .count) (new .transitions) (new .accepting)
+  pub judges : Judges κ (r .inputs) mask
+  pub automaton : Automaton φ (lettersOf r) (r .count) (new .transitions) (new .accepting)
   pub tables : Tables (isFair (r .mode)) (arenaFor r (new .transitions) (new .accepting) mask) (old .system) (old .environment) (new .system) (new .environment)
   pub verdict : Verdict (isFair (r .mode)) (arenaFor r (new .transitions) (new .accepting) mask) (new .system) (new .environment) 0 can
 
@@ -63,7 +63,7 @@ module _ (r : Row) (reading : Reading r) (old new : Buffers) (answer : Answer) (
       let f = one-reading i 0 false (r .condition) (solved .condition-read) (good-reading i (conditionKind i) (r .condition) (reading .assumption) (reading .assumed)) in
       solved .first ∙ rw (reading .small, reading .short, long, e, f, same-count, le-ltb stateLimit (r .count) (reading .few))
 
-  held : (can : Bool) → Served (isFair (r .mode)) i o (r .rule) (r .condition) old new (solved .states) can → Held r reading old new can
+  held : (can : Bool) → Served (isFair (r .mode)) i o (r .rule) (r .condition) old new (solved .states) can → Held r (reading .formula) (reading .assumption) old new can
   held can s =
       let eφ : s .formula ≡ reading .formula = one-formula i o true (r .rule) (s .good .reads) (reading .good .reads) in
       let eκ : s .assumption ≡ reading .assumption = one-formula i 0 false (r .condition) (s .assumed .reads) (reading .assumed .reads) in
@@ -77,18 +77,18 @@ module _ (r : Row) (reading : Reading r) (old new : Buffers) (answer : Answer) (
       }
 
   -- the verdict is the row's
-  verdict-is : (can : Bool) → Held r reading old new can → can ≡ r .can
+  verdict-is : (can : Bool) → Held r (reading .formula) (reading .assumption) old new can → can ≡ r .can
   verdict-is can h =
       same-verdict (isFair (r .mode)) (reading .formula) (arenaFor r (new .transitions) (new .accepting) (h .mask)) (new .system) (new .environment) can (r .can) (h .verdict)
       (reading .verdict (new .transitions) (new .accepting) (h .mask) (h .automaton) (h .judges))
 
   -- the answer is the row's, and the buffers hold what was promised
-  pub answered : (answer ≡ verdictOf (r .can) (r .count)) × Held r reading old new (r .can)
+  pub answered : (answer ≡ verdictOf (r .can) (r .count)) × Held r (reading .formula) (reading .assumption) old new (r .can)
   answered =
       let w = solved .served served in
       let h = held (w .0) (w .2) in
       let e = verdict-is (w .0) h in
-      (w .1 ∙ ap₂ verdictOf e same-count, subst (λ (can : Bool). Held r reading old new can) e h)
+      (w .1 ∙ ap₂ verdictOf e same-count, subst (λ (can : Bool). Held r (reading .formula) (reading .assumption) old new can) e h)
 
 -- every row that is a reading is answered so
 all-answered : (rs : List Row) → All Reading rs → All Answered rs

@@ -1,16 +1,18 @@
 -- From the test to the reading: a row with a certificate that passes (proofs/Certificate.antt) is a reading (specs/Reading.antt).
 -- Assumes nothing.
 use Prim.Native.Nat.{ℕ, _+_, _^_, _≤_, _<_}
-use mathlib.Core.Path.{_≡_, sym, _∙_, subst}
+use mathlib.Core.Path.{_≡_, refl, sym, _∙_, subst}
 use mathlib.Core.Bool.{Bool, true, false, not, _&&_, _||_}
 use mathlib.Core.List.{List, [], _∷_}
 use native.Mathlib.Omega.{arith}
 use lib.Dec.{eqb, leb}
+use lib.ListN.{getD}
 use lib.Pow.{pow-pos}
 use borrow.Author.Tests.{eqb-true, leb-true}
 use Rattle.reader.specs.Limits.{nodeLimit, operatorLimit}
 use Rattle.reader.specs.Formula.{Formula, size, operators}
 use Rattle.reader.specs.Marks.{ruleKind, conditionKind}
+use Rattle.reader.specs.Grammar.{Reads}
 use Rattle.reader.proofs.BoolLaws.{on, clash, and-true, not-true→}
 use Rattle.reader.proofs.StaticLaws.{static}
 use Rattle.automaton.specs.Limits.{stateLimit}
@@ -22,15 +24,15 @@ use Rattle.automaton.specs.Discovery.{stateCount}
 use Rattle.automaton.proofs.ConditionLaws.{mask-judges}
 use Rattle.game.specs.Arena.{isFair}
 use Rattle.readings.specs.Lists.{transitionsOf, flagsOf}
-use Rattle.readings.specs.Reading.{Row, lettersOf, Reading, All}
+use Rattle.readings.specs.Reading.{Row, lettersOf, arenaFor, VerdictOn, Reading, All}
 use Rattle.readings.proofs.Tree.{formulaOf, readsBy}
 use Rattle.readings.proofs.TreeLaws.{reads}
 use Rattle.readings.proofs.ListLaws.{computed}
-use Rattle.readings.proofs.TestLaws.{verdict}
+use Rattle.readings.proofs.TestLaws.{WinsFrom, won, verdict}
 use Rattle.readings.proofs.Certificate.{Certificate, alphabetPasses, textsPass, sizesPass, countPasses, winnerPasses, passesWith, passes, allPass}
 
 -- two masks that judge as the condition does agree
-pub judge-alike : (κ : Formula) (i m m′ : ℕ) → Judges κ i m → Judges κ i m′ → (x : ℕ) → x < 2 ^ i → bit m x ≡ bit m′ x
+judge-alike : (κ : Formula) (i m m′ : ℕ) → Judges κ i m → Judges κ i m′ → (x : ℕ) → x < 2 ^ i → bit m x ≡ bit m′ x
 judge-alike κ i m m′ J J′ x h =
     on (bit m x)
     (λ e. e ∙ sym (J′ x h .1 (J x h .0 e)))
@@ -87,34 +89,58 @@ module _ (r : Row) (c : Certificate) (e : passes r c ≡ true) where
       (eqb-true (r .count) (stateCount φ L) (u .0), leb-true (r .count) stateLimit (u .1))
 
   -- the computed lists hold the automaton with the row's number of states
-  held : Automaton φ L (r .count) (transitionsOf φ L) (flagsOf φ L)
+  pub held : Automaton φ L (r .count) (transitionsOf φ L) (flagsOf φ L)
   held =
       let n : r .count ≡ stateCount φ L = count .0 in
       let few : r .count ≤ stateLimit = count .1 in
       subst (λ (m : ℕ). Automaton φ L m (transitionsOf φ L) (flagsOf φ L)) (sym n) (computed φ L (pow-pos (i + r .outputs)) (omega arith))
 
+  -- the rule's text has the tree's formula, and so has the condition's, which has no temporal operator
+  rule-read : Reads i (ruleKind i (r .outputs)) (r .rule) φ
+  rule-read = reads i (ruleKind i (r .outputs)) (r .rule) (c .rule) (texts .1)
+
+  condition-read : Reads i (conditionKind i) (r .condition) κ
+  condition-read = reads i (conditionKind i) (r .condition) (c .condition) (texts .2)
+
+  judged-so : Judges κ i (maskOf κ i)
+  judged-so = mask-judges κ i (static 0 condition-read)
+
+  -- lists that hold the automaton, and a mask that judges as the condition does
+  module _ (t f : List ℕ) (m : ℕ) (B : Automaton φ L (r .count) t f) (J : Judges κ i m) where
+    -- the start has a rank, and the certificate's table wins from every state that has one
+    all-won : (0 < getD (c .ranks) 0 0) × ((s : ℕ) → 0 < getD (c .ranks) s 0 → WinsFrom (r .can) (isFair (r .mode)) (arenaFor r t f m) (c .table) s)
+    unfolding winnerPasses
+    all-won =
+        won i (r .outputs) φ (r .count) (maskOf κ i) m (transitionsOf φ L) (flagsOf φ L) t f held B (judge-alike κ i m (maskOf κ i) J judged-so)
+        (r .can) (isFair (r .mode)) (c .table) (c .ranks) (parts .4)
+
+    pub ranked-won : (s : ℕ) → 0 < getD (c .ranks) s 0 → WinsFrom (r .can) (isFair (r .mode)) (arenaFor r t f m) (c .table) s
+    ranked-won = all-won .1
+
+    start-won : VerdictOn (r .can) (isFair (r .mode)) φ (arenaFor r t f m)
+    start-won = verdict i (r .outputs) φ (r .count) m t f B (r .can) (isFair (r .mode)) (c .table) (all-won .1 0 (all-won .0))
+
   -- a row whose certificate passes is a reading
   pub reading : Reading r
-  unfolding winnerPasses
   reading =
-      let read = reads i (ruleKind i (r .outputs)) (r .rule) (c .rule) (texts .1) in
-      let read-condition = reads i (conditionKind i) (r .condition) (c .condition) (texts .2) in
-      let still : operators κ ≡ 0 = static 0 read-condition in
       record {
         small = alphabet;
         formula = φ;
-        good = record { reads = read; few-nodes = sizes .0; few-operators = sizes .1 };
+        good = record { reads = rule-read; few-nodes = sizes .0; few-operators = sizes .1 };
         assumption = κ;
-        assumed = record { reads = read-condition; few-nodes = sizes .2; few-operators = omega arith };
-        judges = mask-judges κ i still;
+        assumed = record { reads = condition-read; few-nodes = sizes .2; few-operators = omega (arith, static 0 condition-read) };
+        judges = judged-so;
         short = texts .0;
         counted = count .0;
         few = count .1;
         automaton = held;
-        verdict = λ t f m B J.
-            verdict i (r .outputs) φ (r .count) (maskOf κ i) m (transitionsOf φ L) (flagsOf φ L) t f held B (judge-alike κ i m (maskOf κ i) J (mask-judges κ i still))
-            (r .can) (isFair (r .mode)) (c .table) (c .ranks) (parts .4);
+        verdict = start-won;
       }
+
+  -- with the formulas of the certificate's trees
+  pub reading-formulas : (reading .formula ≡ φ) × (reading .assumption ≡ κ)
+  unfolding reading
+  reading-formulas = (refl, refl)
 
 -- so is every row of a list
 pub all-readings : (rs : List Row) (cs : List Certificate) → allPass rs cs ≡ true → All Reading rs

@@ -59,6 +59,11 @@ step-true G false steady r s x t e =
     let w = and-true (not (goal G t)) (fallsOf (not (holds G x)) steady (getD r t 0) (getD r s 0)) e in
     (not-true→ (goal G t) (w .0), falls-true G false steady r s x t (w .1))
 
+-- the player's table wins from s
+abbrev pub WinsFrom : Bool → Bool → Arena → List ℕ → ℕ → Type 0
+WinsFrom true fair G table s = SystemWins fair G table s
+WinsFrom false fair G table s = EnvironmentWins fair G table s
+
 -- ---- the test on one arena, used on another that holds the same automaton, and whose mask judges alike
 
 module _ (i o : ℕ) (φ : Formula) (n mask₀ mask : ℕ) (t₀ f₀ t f : List ℕ) (A₀ : Automaton φ (letterCount i o) n t₀ f₀) (A : Automaton φ (letterCount i o) n t f)
@@ -134,7 +139,7 @@ module _ (i o : ℕ) (φ : Formula) (n mask₀ mask : ℕ) (t₀ f₀ t f : List
           (hy, step-same true fair r s x y (state-below true fair σ r e s h) hx hy (w .1))
 
   -- and so does the environment by its own
-  pub environment-won : (fair : Bool) (τ r : List ℕ) → winsOf false fair G₀ τ r ≡ true → (s : ℕ) → 0 < getD r s 0 → EnvironmentWins fair G τ s
+  environment-won : (fair : Bool) (τ r : List ℕ) → winsOf false fair G₀ τ r ≡ true → (s : ℕ) → 0 < getD r s 0 → EnvironmentWins fair G τ s
   unfolding bytesOf inputOf
   environment-won fair τ r e = environment-wins fair G τ r (bound false fair τ r e) allowed
     where
@@ -145,11 +150,13 @@ module _ (i o : ℕ) (φ : Formula) (n mask₀ mask : ℕ) (t₀ f₀ t f : List
           let hx = ltb-true x (2 ^ i) (w .0) in
           (hx, λ y hy. step-same false (not fair) r s x y (state-below false fair τ r e s h) hx hy (below-at (inputOf fair G₀ τ r s) (2 ^ o) (w .1) y hy))
 
-  -- the verdict on the start, and with it what it promises of the rule
-  pub verdict : (can fair : Bool) (table r : List ℕ) → winsOf can fair G₀ table r ≡ true → VerdictOn can fair φ G
-  verdict true fair table r e =
-      let w = system-won fair table r e 0 (parts true fair table r e .1) in
-      (table, w, can-keep φ i o n t f mask A fair table w)
-  verdict false fair table r e =
-      let w = environment-won fair table r e 0 (parts false fair table r e .1) in
-      (table, w, cannot-keep φ i o n t f mask A fair table w)
+  -- the start has a rank, and the player wins from every state that has one
+  pub won : (player fair : Bool) (table r : List ℕ) → winsOf player fair G₀ table r ≡ true → (0 < getD r 0 0) × ((s : ℕ) → 0 < getD r s 0 → WinsFrom player fair G table s)
+  won true fair table r e = (parts true fair table r e .1, system-won fair table r e)
+  won false fair table r e = (parts false fair table r e .1, environment-won fair table r e)
+
+-- the verdict of the player that wins from the start, and with it what it promises of the rule
+pub verdict : (i o : ℕ) (φ : Formula) (n mask : ℕ) (t f : List ℕ) → Automaton φ (letterCount i o) n t f → (player fair : Bool) (table : List ℕ)
+    → WinsFrom player fair (arena i o n t f mask) table 0 → VerdictOn player fair φ (arena i o n t f mask)
+verdict i o φ n mask t f A true fair table w = (table, w, can-keep φ i o n t f mask A fair table w)
+verdict i o φ n mask t f A false fair table w = (table, w, cannot-keep φ i o n t f mask A fair table w)

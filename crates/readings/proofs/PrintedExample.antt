@@ -24,7 +24,7 @@ use Rattle.game.specs.declared.answer.Answer.{Answer}
 use Rattle.game.specs.declared.answer.Answer.the-variants.{Cannot}
 use Rattle.game.specs.declared.answer.Mode.the-variants.{Fair}
 use Rattle.game.specs.Arena.{Arena, next, goal, holds}
-use Rattle.game.specs.Tables.{SystemState}
+use Rattle.game.specs.Tables.{SystemState, EnvironmentState}
 use Rattle.game.specs.Rule.{Buffers, shortBuffers}
 use Rattle.game.proofs.Determined.{one-winner}
 use Rattle.listing.specs.Decimal.{digits, decimal}
@@ -52,6 +52,7 @@ example = rowOf 1 0 (70 ∷ 97 ∷ []) Fair (49 ∷ []) false 3
 abbrev never : Certificate
 never = certificate (prefixed 70 (single 97)) (single 49) (0 ∷ 0 ∷ []) (1 ∷ 1 ∷ [])
 
+-- the row's certificate passes
 passed : passes example never ≡ true
 unfolding passes passesWith alphabetPasses textsPass sizesPass countPasses winnerPasses readsBy sameBytes fits formulaOf flat winsOf stateOf bytesOf inputOf outputOf stepOf below next goal holds
     maskOf flagsOf transitionsOf listOf stateCount states discovered look target extend position accepts after start vectors endVector present ends coords value gather word bit
@@ -99,16 +100,21 @@ module _ (old new : Buffers) (h : Held example φ κ old new false) where
   unfolding goal
   into-goal s x hs hx e = rw (leads s x hs hx ∙ e, flag 2 (omega arith)) refl
 
-  -- where the certificate has a rank the environment wins, and not with input 1, which leads to the goal
+  -- the environment does not win by input 1 where it leads to the goal
+  not-1 : (s : ℕ) → s < 3 → led s 1 ≡ 2 → EnvironmentState true G (new .system) (new .environment) s → getD (new .environment) s 0 ≡ 0
+  not-1 s l e w =
+      let byte : ℕ = getD (new .environment) s 0 in
+      let b : byte < 2 = w .byte in
+      on (eqb byte 1)
+      (λ t. absurd (other-byte w 1 0 (omega arith) (into-goal s 1 l (omega arith) e) (eqb-true byte 1 t)))
+      (λ f. let n = eqb-false byte 1 f in omega arith)
+
+  -- where the certificate has a rank the environment wins, so by input 0
   byte-0 : (s : ℕ) → s < 3 → 0 < getD (never .ranks) s 0 → led s 1 ≡ 2 → getD (new .environment) s 0 ≡ 0
   byte-0 s l rank e =
       ⊎-elim
       (λ w. absurd (one-winner true G (new .system) (never .table) s (w .wins) (ranked-won example never passed (new .transitions) (new .accepting) (h .mask) (h .automaton) (h .judges) s rank)))
-      (λ w.
-      let b : getD (new .environment) s 0 < 2 = w .byte in
-      on (eqb (getD (new .environment) s 0) 1)
-      (λ t. absurd (other-byte w 1 0 (omega arith) (into-goal s 1 l (omega arith) e) (eqb-true (getD (new .environment) s 0) 1 t)))
-      (λ f. let n = eqb-false (getD (new .environment) s 0) 1 f in omega arith))
+      (not-1 s l e)
       (h .tables .won s l)
 
   -- the goal is the system's: both inputs enter it again
@@ -116,17 +122,14 @@ module _ (old new : Buffers) (h : Held example φ κ old new false) where
   goal-won =
       ⊎-elim
       (λ w. w)
-      (λ w.
-      let b : getD (new .environment) 2 0 < 2 = w .byte in
-      on (eqb (getD (new .environment) 2 0) 1)
-      (λ t. absurd (other-byte w 1 0 (omega arith) (into-goal 2 1 (omega arith) (omega arith) refl) (eqb-true (getD (new .environment) 2 0) 1 t)))
-      (λ f. let n = eqb-false (getD (new .environment) 2 0) 1 f in absurd (other-byte w 0 0 (omega arith) (into-goal 2 0 (omega arith) (omega arith) refl) (omega arith))))
+      (λ w. absurd (other-byte w 0 0 (omega arith) (into-goal 2 0 (omega arith) (omega arith) refl) (not-1 2 (omega arith) refl w)))
       (h .tables .won 2 (omega arith))
 
   -- there is one output number, 0
   output-0 : (x : ℕ) → x < 2 → getD (new .system) (4 + x) 0 ≡ 0
   output-0 x l = let b : getD (new .system) (4 + x) 0 < 1 = goal-won .bytes x l in omega arith
 
+  -- the listing of these buffers
   lines : listing 1 new (Cannot 3) ≡ exampleListing
   unfolding exampleListing stateLines verdictLines digits decimal
   lines =
@@ -161,7 +164,7 @@ asks =
       rule-line = ((λ e. omega arith), ((λ e. omega arith), tt));
     }
 
--- and no other
+-- and no other request, so an answer to one that they are is an answer to it
 moved : (i o : ℕ) (fair : Bool) (c ρ text : List ℕ) → (i ≡ 1) × (o ≡ 0) × (fair ≡ true) × (c ≡ 49 ∷ []) × (ρ ≡ 70 ∷ 97 ∷ []) → Answers i o fair c ρ text → Answers 1 0 true (49 ∷ []) (70 ∷ 97 ∷ []) text
 moved i o fair c ρ text e q =
     subst (λ (j : ℕ). Answers j 0 true (49 ∷ []) (70 ∷ 97 ∷ []) text) (e .0)

@@ -8,6 +8,7 @@ use solver::listing::{airtable, buffers};
 use solver::reader::read;
 use solver::wording::Wording;
 use solver::Mode::{self, *};
+use std::fs;
 
 /// The call for a rule, with its tables judged.
 fn solve(i: usize, o: usize, mode: Mode, condition: &str, rule: &str) -> Result<Verdict, Refusal> {
@@ -28,19 +29,129 @@ fn reading(mode: Mode, condition: &str, rule: &str, can: bool, n: usize) {
     assert_eq!(solve(1, 1, mode, condition, rule), Ok(Verdict { can, n }), "{rule} {mode:?} {condition}");
 }
 
+/// A reading: the rule, the mode, the condition, whether the station can, and n.
+type Row<'a> = (&'a str, Mode, &'a str, bool, usize);
+
+/// The readings that 01 marks as proved, in its order.
+const PROVED: [Row; 11] = [
+    ("Fp", Fair, "1", true, 3),
+    ("Fa", Fair, "1", false, 3),
+    ("Fa", Fair, "a", true, 3),
+    ("Fa", Fair, "0", true, 3),
+    ("Ga", Stable, "a", false, 3),
+    ("F(a&Xa)", Fair, "a", false, 4),
+    ("F(a&Xa)", Stable, "a", true, 4),
+    ("Xa", Fair, "1", false, 4),
+    ("Na", Fair, "1", true, 4),
+    ("a&p|!a&!p", Fair, "1", true, 3),
+    ("pUa", Fair, "a", true, 4),
+];
+
 #[test]
 fn proved_readings() {
-    reading(Fair, "1", "Fp", true, 3);
-    reading(Fair, "1", "Fa", false, 3);
-    reading(Fair, "a", "Fa", true, 3);
-    reading(Fair, "0", "Fa", true, 3);
-    reading(Stable, "a", "Ga", false, 3);
-    reading(Fair, "a", "F(a&Xa)", false, 4);
-    reading(Stable, "a", "F(a&Xa)", true, 4);
-    reading(Fair, "1", "Xa", false, 4);
-    reading(Fair, "1", "Na", true, 4);
-    reading(Fair, "1", "a&p|!a&!p", true, 3);
-    reading(Fair, "a", "pUa", true, 4);
+    for (rule, mode, condition, can, n) in PROVED {
+        reading(mode, condition, rule, can, n);
+    }
+}
+
+/// Where the theorems of the proved readings and of the printed example are stated.
+const SPECS: &str = concat!(env!("CARGO_MANIFEST_DIR"), "/../crates/readings/specs");
+
+/// One of the files there.
+fn specs(file: &str) -> String {
+    fs::read_to_string(format!("{SPECS}/{file}")).unwrap()
+}
+
+/// The lines of a definition, which goes up to an empty line, without its comments.
+fn definition<'a>(source: &'a str, name: &str) -> Vec<&'a str> {
+    let (_, rest) = source.split_once(&format!("\n{name} =\n")).unwrap();
+    let lines = rest.lines().map(str::trim).take_while(|line| !line.is_empty());
+    lines.filter(|line| !line.starts_with("--")).collect()
+}
+
+/// The text of a list of bytes, written as in `70 ∷ 112 ∷ []`.
+fn text_of(list: &str) -> String {
+    let bytes = list.strip_suffix("[]").unwrap().split_terminator(" ∷ ");
+    bytes.map(|byte| char::from(byte.parse::<u8>().unwrap())).collect()
+}
+
+/// A row as the theorem has it: `row (70 ∷ 112 ∷ []) Fair (49 ∷ []) true 3`.
+fn row_of(line: &str) -> (String, Mode, String, bool, usize) {
+    let (rule, rest) = line.strip_prefix("row (").unwrap().split_once(") ").unwrap();
+    let (mode, rest) = rest.split_once(" (").unwrap();
+    let (condition, rest) = rest.split_once(") ").unwrap();
+    let (can, n) = rest.split_once(' ').unwrap();
+    let mode = [("Fair", Fair), ("Stable", Stable)].iter().find(|(word, _)| *word == mode).unwrap().1;
+    (text_of(rule), mode, text_of(condition), can.parse().unwrap(), n.parse().unwrap())
+}
+
+/// The lines of the theorem's rows, in order, and nothing beside them.
+fn row_lines(source: &str) -> Vec<&str> {
+    let lines = definition(source, "rows");
+    let mut lines: Vec<&str> = lines.iter().map(|line| line.strip_prefix("∷ ").unwrap_or(line)).collect();
+    assert_eq!(lines.pop(), Some("[]"));
+    lines
+}
+
+/// Whether these are 01's rows: all of them, in order, each as it is.
+fn are_proved(lines: &[&str]) -> bool {
+    let rows: Vec<_> = lines.iter().map(|line| row_of(line)).collect();
+    let rows: Vec<Row> =
+        rows.iter().map(|(rule, mode, condition, can, n)| (&rule[..], *mode, &condition[..], *can, *n)).collect();
+    rows == PROVED
+}
+
+/// Each way to change one word of a row: the other mode, the other verdict, or a number one higher.
+fn changes(line: &str) -> Vec<String> {
+    let words: Vec<&str> = line.split(' ').collect();
+    let other = |word: &str| match word {
+        "Fair" => Some("Stable".into()),
+        "Stable" => Some("Fair".into()),
+        "true" => Some("false".into()),
+        "false" => Some("true".into()),
+        _ => {
+            let number = word.trim_start_matches('(');
+            number.parse::<u8>().ok().map(|byte| word.replace(number, &(byte + 1).to_string()))
+        }
+    };
+    let changed =
+        |k: usize| other(words[k]).map(|word: String| [&words[..k], &[&word[..]], &words[k + 1..]].concat().join(" "));
+    (0..words.len()).filter_map(changed).collect()
+}
+
+/// What the words of a row stand for.
+const ROW: [&str; 2] = [
+    "row rule mode condition can n = rowOf 1 1 rule mode condition can n",
+    "rowOf i o rule mode condition can n = record { inputs = i; outputs = o; rule = rule; mode = mode; condition = condition; can = can; count = n }",
+];
+
+#[test]
+fn the_theorem_has_the_proved_readings() {
+    let source = specs("Rows.antt");
+    let lines = row_lines(&source);
+    assert!(are_proved(&lines));
+    let reading = specs("Reading.antt");
+    assert!(
+        ROW.iter().all(|line| reading.lines().any(|found| found == *line)),
+        "the words of a row stand for something else"
+    );
+    for k in 0..lines.len() {
+        let mut fewer = lines.clone();
+        fewer.remove(k);
+        assert!(!are_proved(&fewer), "without {}", lines[k]);
+        for other in k + 1..lines.len() {
+            let mut swapped = lines.clone();
+            swapped.swap(k, other);
+            assert!(!are_proved(&swapped), "{} for {}", lines[other], lines[k]);
+        }
+        let changes = changes(lines[k]);
+        assert!(changes.len() > 5);
+        for change in changes {
+            let mut changed = lines.clone();
+            changed[k] = &change;
+            assert!(!are_proved(&changed), "{change} for {}", lines[k]);
+        }
+    }
 }
 
 #[test]
@@ -60,10 +171,20 @@ fn a_rule_with_128_states_is_served() {
     assert_eq!(solve(4, 4, Fair, "1", rule).unwrap().n, 128);
 }
 
+/// 01's printed example: the four lines, and the listing.
+const EXAMPLE: (&str, &str) = ("1 0\nfair\n1\nFa\n", "cannot 3\n0 - O 0\n1 - O 0\n2 * S 0 0\n");
+
 #[test]
 fn printed_example() {
-    let text = airtable(b"1 0\nfair\n1\nFa\n");
-    assert_eq!(String::from_utf8(text).unwrap(), "cannot 3\n0 - O 0\n1 - O 0\n2 * S 0 0\n");
+    let text = airtable(EXAMPLE.0.as_bytes());
+    assert_eq!(String::from_utf8(text).unwrap(), EXAMPLE.1);
+}
+
+#[test]
+fn the_theorem_has_the_printed_example() {
+    let source = specs("Example.antt");
+    let text = |name| text_of(&definition(&source, name).join(" "));
+    assert_eq!((&text("exampleInput")[..], &text("exampleListing")[..]), EXAMPLE);
 }
 
 #[test]

@@ -17,10 +17,10 @@ use Rattle.automaton.specs.Condition.{maskOf, Judges}
 use Rattle.game.specs.declared.answer.Answer.{Answer}
 use Rattle.game.specs.Answer.{verdictOf}
 use Rattle.game.specs.Arena.{Arena, arena, isFair}
-use Rattle.game.specs.Tables.{Verdict}
-use Rattle.game.specs.Rule.{Buffers, shortBuffers, ruleRefusal, Served, RuleSolved}
+use Rattle.game.specs.Tables.{Tables, Verdict}
+use Rattle.game.specs.Rule.{Buffers, shortBuffers, ruleRefusal, Served}
 use Rattle.game.proofs.Determined.{one-winner}
-use Rattle.readings.specs.Reading.{Row, L, VerdictOn, Reading, Answered, All}
+use Rattle.readings.specs.Reading.{Row, lettersOf, arenaFor, VerdictOn, Reading, SolvedFor, Answered, All}
 use Rattle.readings.specs.Rows.{rows}
 use Rattle.readings.proofs.Readings.{readings}
 
@@ -36,8 +36,21 @@ same-verdict fair φ G σ τ true false v w = absurd (one-winner fair G σ (w .0
 same-verdict fair φ G σ τ false true v w = absurd (one-winner fair G (w .0) τ 0 (w .1) (v .environment refl .wins))
 same-verdict fair φ G σ τ false false v w = refl
 
-module _ (r : Row) (reading : Reading r) (old new : Buffers) (answer : Answer) (long : shortBuffers 1 1 old ≡ false)
-    (solved : RuleSolved (isFair (r .mode)) 1 1 (r .rule) (r .condition) old new answer) where
+-- what the buffers hold after a served call, in the row's terms, where its texts have the formulas φ and κ
+pub record Held (r : Row) (φ κ : Formula) (old new : Buffers) (can : Bool) : Type 0 where
+  pub mask : ℕ
+  pub judges : Judges κ (r .inputs) mask
+  pub automaton : Automaton φ (lettersOf r) (r .count) (new .transitions) (new .accepting)
+  pub tables : Tables (isFair (r .mode)) (arenaFor r (new .transitions) (new .accepting) mask) (old .system) (old .environment) (new .system) (new .environment)
+  pub verdict : Verdict (isFair (r .mode)) (arenaFor r (new .transitions) (new .accepting) mask) (new .system) (new .environment) 0 can
+
+module _ (r : Row) (reading : Reading r) (old new : Buffers) (answer : Answer) (long : shortBuffers (r .inputs) (r .outputs) old ≡ false) (solved : SolvedFor r old new answer) where
+  abbrev i : ℕ
+  i = r .inputs
+
+  abbrev o : ℕ
+  o = r .outputs
+
   -- n is the row's
   same-count : solved .states ≡ r .count
   same-count = solved .counted (reading .formula) (reading .good) ∙ sym (reading .counted)
@@ -46,30 +59,41 @@ module _ (r : Row) (reading : Reading r) (old new : Buffers) (answer : Answer) (
   served : solved .refusal ≡ Nothing
   unfolding ruleRefusal
   served =
-      let e = one-reading 1 1 true (r .rule) (solved .read) (good-reading 1 (ruleKind 1 1) (r .rule) (reading .formula) (reading .good)) in
-      let f = one-reading 1 0 false (r .condition) (solved .condition-read) (good-reading 1 (conditionKind 1) (r .condition) (reading .assumption) (reading .assumed)) in
-      solved .first ∙ rw (reading .short, long, e, f, same-count, le-ltb stateLimit (r .count) (reading .few))
+      let e = one-reading i o true (r .rule) (solved .read) (good-reading i (ruleKind i o) (r .rule) (reading .formula) (reading .good)) in
+      let f = one-reading i 0 false (r .condition) (solved .condition-read) (good-reading i (conditionKind i) (r .condition) (reading .assumption) (reading .assumed)) in
+      solved .first ∙ rw (reading .small, reading .short, long, e, f, same-count, le-ltb stateLimit (r .count) (reading .few))
+
+  held : (can : Bool) → Served (isFair (r .mode)) i o (r .rule) (r .condition) old new (solved .states) can → Held r (reading .formula) (reading .assumption) old new can
+  held can s =
+      let eφ : s .formula ≡ reading .formula = one-formula i o true (r .rule) (s .good .reads) (reading .good .reads) in
+      let eκ : s .assumption ≡ reading .assumption = one-formula i 0 false (r .condition) (s .assumed .reads) (reading .assumed .reads) in
+      let mask : ℕ = maskOf (s .assumption) i in
+      record {
+        mask = mask;
+        judges = subst (λ (κ : Formula). Judges κ i mask) eκ (s .judges);
+        automaton = subst₂ (λ (φ : Formula) (n : ℕ). Automaton φ (lettersOf r) n (new .transitions) (new .accepting)) eφ same-count (s .automaton);
+        tables = subst (λ (n : ℕ). Tables (isFair (r .mode)) (arena i o n (new .transitions) (new .accepting) mask) (old .system) (old .environment) (new .system) (new .environment)) same-count (s .tables);
+        verdict = subst (λ (n : ℕ). Verdict (isFair (r .mode)) (arena i o n (new .transitions) (new .accepting) mask) (new .system) (new .environment) 0 can) same-count (s .verdict);
+      }
 
   -- the verdict is the row's
-  verdict-is : (can : Bool) → Served (isFair (r .mode)) 1 1 (r .rule) (r .condition) old new (solved .states) can → can ≡ r .can
-  verdict-is can s =
-      let eφ : s .formula ≡ reading .formula = one-formula 1 1 true (r .rule) (s .good .reads) (reading .good .reads) in
-      let eκ : s .assumption ≡ reading .assumption = one-formula 1 0 false (r .condition) (s .assumed .reads) (reading .assumed .reads) in
-      let A : Automaton (reading .formula) L (r .count) (new .transitions) (new .accepting) =
-      subst₂ (λ (φ : Formula) (n : ℕ). Automaton φ L n (new .transitions) (new .accepting)) eφ same-count (s .automaton) in
-      let J : Judges (reading .assumption) 1 (maskOf (s .assumption) 1) = subst (λ (κ : Formula). Judges κ 1 (maskOf (s .assumption) 1)) eκ (s .judges) in
-      let v : Verdict (isFair (r .mode)) (arena 1 1 (r .count) (new .transitions) (new .accepting) (maskOf (s .assumption) 1)) (new .system) (new .environment) 0 can =
-      subst (λ (n : ℕ). Verdict (isFair (r .mode)) (arena 1 1 n (new .transitions) (new .accepting) (maskOf (s .assumption) 1)) (new .system) (new .environment) 0 can) same-count (s .verdict) in
-      same-verdict (isFair (r .mode)) (reading .formula) (arena 1 1 (r .count) (new .transitions) (new .accepting) (maskOf (s .assumption) 1)) (new .system) (new .environment) can (r .can) v
-      (reading .verdict (new .transitions) (new .accepting) (maskOf (s .assumption) 1) A J)
+  verdict-is : (can : Bool) → Held r (reading .formula) (reading .assumption) old new can → can ≡ r .can
+  verdict-is can h =
+      same-verdict (isFair (r .mode)) (reading .formula) (arenaFor r (new .transitions) (new .accepting) (h .mask)) (new .system) (new .environment) can (r .can) (h .verdict)
+      (reading .verdict (new .transitions) (new .accepting) (h .mask) (h .automaton) (h .judges))
 
-  answered : answer ≡ verdictOf (r .can) (r .count)
-  answered = let w = solved .served served in w .1 ∙ ap₂ verdictOf (verdict-is (w .0) (w .2)) same-count
+  -- the answer is the row's, and the buffers hold what was promised
+  pub answered : (answer ≡ verdictOf (r .can) (r .count)) × Held r (reading .formula) (reading .assumption) old new (r .can)
+  answered =
+      let w = solved .served served in
+      let h = held (w .0) (w .2) in
+      let e = verdict-is (w .0) h in
+      (w .1 ∙ ap₂ verdictOf e same-count, subst (λ (can : Bool). Held r (reading .formula) (reading .assumption) old new can) e h)
 
 -- every row that is a reading is answered so
 all-answered : (rs : List Row) → All Reading rs → All Answered rs
 all-answered [] xs = tt
-all-answered (r ∷ rs) xs = (answered r (xs .0), all-answered rs (xs .1))
+all-answered (r ∷ rs) xs = ((λ old new answer long solved. answered r (xs .0) old new answer long solved .0), all-answered rs (xs .1))
 
 pub answers : All Answered rows
 answers = all-answered rows readings

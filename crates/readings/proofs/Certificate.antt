@@ -8,12 +8,12 @@ use Rattle.reader.specs.Limits.{nodeLimit, operatorLimit}
 use Rattle.reader.specs.Formula.{Formula, size, operators}
 use Rattle.reader.specs.Marks.{ruleKind, conditionKind, kindIn}
 use Rattle.automaton.specs.Limits.{stateLimit}
-use Rattle.automaton.specs.Alphabet.{tooLong}
+use Rattle.automaton.specs.Alphabet.{badAlphabet, tooLong}
 use Rattle.automaton.specs.Condition.{maskOf}
 use Rattle.automaton.specs.Discovery.{stateCount}
-use Rattle.game.specs.Arena.{Arena, arena, isFair}
+use Rattle.game.specs.Arena.{isFair}
 use Rattle.readings.specs.Lists.{transitionsOf, flagsOf}
-use Rattle.readings.specs.Reading.{Row, L}
+use Rattle.readings.specs.Reading.{Row, lettersOf, arenaFor}
 use Rattle.readings.proofs.Tree.{Tree, formulaOf, readsBy}
 use Rattle.readings.proofs.Test.{winsOf}
 
@@ -27,10 +27,16 @@ pub record Certificate : Type 0 where
 abbrev pub certificate : Tree → Tree → List ℕ → List ℕ → Certificate
 certificate rule condition table ranks = record { rule = rule; condition = condition; table = table; ranks = ranks }
 
+-- i and o are in range
+unfoldable pub alphabetPasses : Row → Bool
+alphabetPasses r = not (badAlphabet (r .inputs) (r .outputs))
+
 -- the texts are not too long, and the trees read them
 unfoldable pub textsPass : Row → Certificate → Bool
 unfolding kindIn readsBy
-textsPass r c = not (tooLong (r .rule) || tooLong (r .condition)) && (readsBy (ruleKind 1 1) (r .rule) (c .rule) && readsBy (conditionKind 1) (r .condition) (c .condition))
+textsPass r c =
+    not (tooLong (r .rule) || tooLong (r .condition))
+    && (readsBy (ruleKind (r .inputs) (r .outputs)) (r .rule) (c .rule) && readsBy (conditionKind (r .inputs)) (r .condition) (c .condition))
 
 -- the two formulas are within the limits
 unfoldable pub sizesPass : Formula → Formula → Bool
@@ -38,23 +44,24 @@ unfolding size operators
 sizesPass φ κ = leb (size φ) nodeLimit && (leb (operators φ) operatorLimit && leb (size κ) nodeLimit)
 
 -- the rule has n states, and n is within the limit
-unfoldable pub countPasses : Formula → ℕ → Bool
+unfoldable pub countPasses : Row → Formula → Bool
 unfolding stateCount
-countPasses φ n = eqb n (stateCount φ L) && leb n stateLimit
+countPasses r φ = eqb (r .count) (stateCount φ (lettersOf r)) && leb (r .count) stateLimit
 
--- the arena whose lists and mask are computed from the definitions
-abbrev pub arenaOf : Formula → Formula → ℕ → Arena
-arenaOf φ κ n = arena 1 1 n (transitionsOf φ L) (flagsOf φ L) (maskOf κ 1)
+-- the winner's ranks are a certificate on the arena whose lists and mask are computed from the definitions
+unfoldable pub winnerPasses : Row → Certificate → Formula → Formula → Bool
+unfolding winsOf transitionsOf flagsOf maskOf
+winnerPasses r c φ κ =
+    winsOf (r .can) (isFair (r .mode)) (arenaFor r (transitionsOf φ (lettersOf r)) (flagsOf φ (lettersOf r)) (maskOf κ (r .inputs))) (c .table) (c .ranks)
 
 -- the test, over the two formulas
 unfoldable pub passesWith : Row → Certificate → Formula → Formula → Bool
-unfolding textsPass sizesPass countPasses winsOf transitionsOf flagsOf maskOf
-passesWith r c φ κ =
-    textsPass r c && (sizesPass φ κ && (countPasses φ (r .count) && winsOf (r .can) (isFair (r .mode)) (arenaOf φ κ (r .count)) (c .table) (c .ranks)))
+unfolding alphabetPasses textsPass sizesPass countPasses winnerPasses
+passesWith r c φ κ = alphabetPasses r && (textsPass r c && (sizesPass φ κ && (countPasses r φ && winnerPasses r c φ κ)))
 
 unfoldable pub passes : Row → Certificate → Bool
 unfolding passesWith formulaOf
-passes r c = passesWith r c (formulaOf 1 (c .rule)) (formulaOf 1 (c .condition))
+passes r c = passesWith r c (formulaOf (r .inputs) (c .rule)) (formulaOf (r .inputs) (c .condition))
 
 -- each row of a list has a certificate that passes
 unfoldable pub allPass : List Row → List Certificate → Bool

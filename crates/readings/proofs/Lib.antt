@@ -7,3 +7,6 @@ pub mod Certificate
 pub mod CertificateLaws
 pub mod Readings
 pub mod Answers
+pub mod StateLaws
+pub mod LineLaws
+pub mod PrintedExample

@@ -1,7 +1,8 @@
--- The theorem: every row that 01 marks as proved is a reading. Each has a certificate, and one computation tests them all.
+-- The theorem: every row that 01 marks as proved is a reading. Each has a certificate, and one computation tests them all. There are eleven rows.
 -- Assumes nothing.
-use mathlib.Core.Path.{refl}
+use mathlib.Core.Path.{_≡_, refl}
 use mathlib.Core.List.{List, [], _∷_}
+use lib.ListN.{length}
 use Rattle.reader.specs.Formula.{size, operators}
 use Rattle.reader.specs.Marks.{kindIn, allowedBy, isTemporal, amongOf, kindOf, operandOf, unaryOf, binaryOf}
 use Rattle.reader.specs.Grammar.{marks}
@@ -16,7 +17,7 @@ use Rattle.readings.specs.Reading.{Reading, All}
 use Rattle.readings.specs.Rows.{rows}
 use Rattle.readings.proofs.Tree.{Tree, single, prefixed, grouped, joined, flat, formulaOf, fits, sameBytes, readsBy}
 use Rattle.readings.proofs.Test.{below, stepOf, outputOf, inputOf, bytesOf, stateOf, winsOf}
-use Rattle.readings.proofs.Certificate.{Certificate, certificate, textsPass, sizesPass, countPasses, passesWith, passes, allPass}
+use Rattle.readings.proofs.Certificate.{Certificate, certificate, alphabetPasses, textsPass, sizesPass, countPasses, winnerPasses, passesWith, passes, allPass}
 use Rattle.readings.proofs.CertificateLaws.{all-readings}
 
 -- 0 and 1, and the names a and p
@@ -64,7 +65,12 @@ certificates =
     ∷ []
 
 pub readings : All Reading rows
-unfolding rows certificates allPass passes passesWith textsPass sizesPass countPasses readsBy sameBytes fits formulaOf flat winsOf stateOf bytesOf inputOf outputOf stepOf below next goal holds
+unfolding rows certificates allPass passes passesWith alphabetPasses textsPass sizesPass countPasses winnerPasses readsBy sameBytes fits formulaOf flat winsOf stateOf bytesOf inputOf outputOf stepOf below next goal holds
     maskOf flagsOf transitionsOf listOf stateCount states discovered look target extend position accepts after start vectors endVector present ends coords value gather word bit
     marks binaryOf unaryOf operandOf kindOf amongOf isTemporal allowedBy kindIn operators size
 readings = all-readings rows certificates refl
+
+-- as many as 01 marks
+pub eleven : length rows ≡ 11
+unfolding rows
+eleven = refl

@@ -1,7 +1,7 @@
 -- From the test (proofs/Test.antt) to the verdict: the test, computed on the lists of the definitions, holds on any lists that hold the same automaton;
 -- there the ranks are those of game's proofs/PlayLaws, by which the table wins every play, and so keeps the rule.
 -- Assumes nothing.
-use Prim.Native.Nat.{ℕ, zero, suc, _≤_, _<_}
+use Prim.Native.Nat.{ℕ, zero, suc, _*_, _^_, _≤_, _<_}
 use mathlib.Core.Path.{_≡_, sym, ap₂, _∙_, subst}
 use mathlib.Core.Bool.{Bool, true, false, not, _&&_, _||_}
 use mathlib.Core.List.{List}
@@ -12,9 +12,10 @@ use borrow.Author.Count.{below-more}
 use borrow.Author.Tests.{ltb-true, leb-true, eqb-true, ltb-false}
 use lib.Dec.{eqb, ltb, leb}
 use lib.ListN.{length, getD, List·getD-eq-default}
+use lib.Pow.{pow-add}
 use Rattle.reader.specs.Formula.{Formula}
 use Rattle.reader.proofs.BoolLaws.{on, and-true, or-cases, not-true→}
-use Rattle.automaton.specs.Alphabet.{letterOf}
+use Rattle.automaton.specs.Alphabet.{letterOf, letterCount}
 use Rattle.automaton.specs.Bits.{bit}
 use Rattle.automaton.specs.Automaton.{Automaton}
 use Rattle.game.specs.Arena.{Arena, arena, next, goal, holds}
@@ -24,7 +25,7 @@ use Rattle.game.specs.Strategy.{systemByte, environmentByte, SystemWins, Enviro
 use Rattle.game.proofs.IndexLaws.{letter-below}
 use Rattle.game.proofs.PlayLaws.{system-wins, environment-wins}
 use Rattle.game.proofs.RuleLaws.{can-keep, cannot-keep}
-use Rattle.readings.specs.Reading.{L, VerdictOn}
+use Rattle.readings.specs.Reading.{VerdictOn}
 use Rattle.readings.proofs.Test.{below, fallsOf, stepOf, outputOf, inputOf, bytesOf, stateOf, winsOf}
 use Rattle.readings.proofs.ListLaws.{same-transition, same-flag}
 
@@ -58,27 +59,38 @@ step-true G false steady r s x t e =
     let w = and-true (not (goal G t)) (fallsOf (not (holds G x)) steady (getD r t 0) (getD r s 0)) e in
     (not-true→ (goal G t) (w .0), falls-true G false steady r s x t (w .1))
 
+-- the player's table wins from s
+abbrev pub WinsFrom : Bool → Bool → Arena → List ℕ → ℕ → Type 0
+WinsFrom true fair G table s = SystemWins fair G table s
+WinsFrom false fair G table s = EnvironmentWins fair G table s
+
 -- ---- the test on one arena, used on another that holds the same automaton, and whose mask judges alike
 
-module _ (φ : Formula) (n mask₀ mask : ℕ) (t₀ f₀ t f : List ℕ) (A₀ : Automaton φ L n t₀ f₀) (A : Automaton φ L n t f) (judge : (x : ℕ) → x < 2 → bit mask x ≡ bit mask₀ x) where
+module _ (i o : ℕ) (φ : Formula) (n mask₀ mask : ℕ) (t₀ f₀ t f : List ℕ) (A₀ : Automaton φ (letterCount i o) n t₀ f₀) (A : Automaton φ (letterCount i o) n t f)
+    (judge : (x : ℕ) → x < 2 ^ i → bit mask x ≡ bit mask₀ x) where
   abbrev G₀ : Arena
-  G₀ = arena 1 1 n t₀ f₀ mask₀
+  G₀ = arena i o n t₀ f₀ mask₀
 
   abbrev G : Arena
-  G = arena 1 1 n t f mask
+  G = arena i o n t f mask
 
-  next-same : (s x y : ℕ) → s < n → x < 2 → y < 2 → (next G₀ s x y < n) × (next G s x y ≡ next G₀ s x y)
+  -- the letters, counted as pairs of an input and an output
+  on-product : (t′ f′ : List ℕ) → Automaton φ (letterCount i o) n t′ f′ → Automaton φ (2 ^ i * 2 ^ o) n t′ f′
+  on-product t′ f′ B = subst (λ (L : ℕ). Automaton φ L n t′ f′) (pow-add 2 i o) B
+
+  pub next-same : (s x y : ℕ) → s < n → x < 2 ^ i → y < 2 ^ o → (next G₀ s x y < n) × (next G s x y ≡ next G₀ s x y)
   unfolding next
   next-same s x y hs hx hy =
-      let h : letterOf 2 x y < L = letter-below 2 2 x y hx hy in
-      (A₀ .moved s (letterOf 2 x y) hs h .0, same-transition A A₀ s (letterOf 2 x y) hs h)
+      let a : ℕ = letterOf (2 ^ i) x y in
+      let h : a < 2 ^ i * 2 ^ o = letter-below (2 ^ i) (2 ^ o) x y hx hy in
+      (on-product t₀ f₀ A₀ .moved s a hs h .0, same-transition (on-product t f A) (on-product t₀ f₀ A₀) s a hs h)
 
-  step-equal : (player steady : Bool) (r : List ℕ) (s x u : ℕ) → x < 2 → u < n → stepOf G player steady r s x u ≡ stepOf G₀ player steady r s x u
+  step-equal : (player steady : Bool) (r : List ℕ) (s x u : ℕ) → x < 2 ^ i → u < n → stepOf G player steady r s x u ≡ stepOf G₀ player steady r s x u
   unfolding stepOf goal holds
   step-equal true steady r s x u hx hu = ap₂ (λ (k : ℕ) (b : Bool). not (eqb k 0) || fallsOf b steady (getD r u 0) (getD r s 0)) (same-flag A A₀ u hu) (judge x hx)
   step-equal false steady r s x u hx hu = ap₂ (λ (k : ℕ) (b : Bool). not (not (eqb k 0)) && fallsOf (not b) steady (getD r u 0) (getD r s 0)) (same-flag A A₀ u hu) (judge x hx)
 
-  step-same : (player steady : Bool) (r : List ℕ) (s x y : ℕ) → s < n → x < 2 → y < 2 → stepOf G₀ player steady r s x (next G₀ s x y) ≡ true → Safe G player (next G s x y) (Falls G player steady r s x (next G s x y))
+  step-same : (player steady : Bool) (r : List ℕ) (s x y : ℕ) → s < n → x < 2 ^ i → y < 2 ^ o → stepOf G₀ player steady r s x (next G₀ s x y) ≡ true → Safe G player (next G s x y) (Falls G player steady r s x (next G s x y))
   step-same player steady r s x y hs hx hy e =
       let w = next-same s x y hs hx hy in
       subst (λ (u : ℕ). Safe G player u (Falls G player steady r s x u)) (sym (w .1))
@@ -114,31 +126,37 @@ module _ (φ : Formula) (n mask₀ mask : ℕ) (t₀ f₀ t f : List ℕ) (A₀ 
     state-below : (s : ℕ) → 0 < getD r s 0 → s < n
     state-below s h = omega (arith, inside s h, parts .0)
 
-  -- the system's test gives its verdict
-  system-verdict : (fair : Bool) (σ r : List ℕ) → winsOf true fair G₀ σ r ≡ true → SystemWins fair G σ 0
+  -- by the system's test it wins from every state that has a rank
+  system-won : (fair : Bool) (σ r : List ℕ) → winsOf true fair G₀ σ r ≡ true → (s : ℕ) → 0 < getD r s 0 → SystemWins fair G σ s
   unfolding bytesOf outputOf
-  system-verdict fair σ r e = system-wins fair G σ r (bound true fair σ r e) allowed 0 (parts true fair σ r e .1)
+  system-won fair σ r e = system-wins fair G σ r (bound true fair σ r e) allowed
     where
-      allowed : (s : ℕ) → 0 < getD r s 0 → (x : ℕ) → x < 2 → AllowedOutput fair G r s x (systemByte G σ s x)
+      allowed : (s : ℕ) → 0 < getD r s 0 → (x : ℕ) → x < 2 ^ i → AllowedOutput fair G r s x (systemByte G σ s x)
       allowed s h x hx =
           let y = systemByte G₀ σ s x in
-          let w = and-true (ltb y 2) (stepOf G₀ true fair r s x (next G₀ s x y)) (below-at (outputOf fair G₀ σ r s) 2 (bytes-right true fair σ r e s h) x hx) in
-          let hy = ltb-true y 2 (w .0) in
+          let w = and-true (ltb y (2 ^ o)) (stepOf G₀ true fair r s x (next G₀ s x y)) (below-at (outputOf fair G₀ σ r s) (2 ^ i) (bytes-right true fair σ r e s h) x hx) in
+          let hy = ltb-true y (2 ^ o) (w .0) in
           (hy, step-same true fair r s x y (state-below true fair σ r e s h) hx hy (w .1))
 
-  -- and so does the environment's
-  environment-verdict : (fair : Bool) (τ r : List ℕ) → winsOf false fair G₀ τ r ≡ true → EnvironmentWins fair G τ 0
+  -- and so does the environment by its own
+  environment-won : (fair : Bool) (τ r : List ℕ) → winsOf false fair G₀ τ r ≡ true → (s : ℕ) → 0 < getD r s 0 → EnvironmentWins fair G τ s
   unfolding bytesOf inputOf
-  environment-verdict fair τ r e = environment-wins fair G τ r (bound false fair τ r e) allowed 0 (parts false fair τ r e .1)
+  environment-won fair τ r e = environment-wins fair G τ r (bound false fair τ r e) allowed
     where
       allowed : (s : ℕ) → 0 < getD r s 0 → AllowedInput fair G r s (environmentByte τ s)
       allowed s h =
           let x = environmentByte τ s in
-          let w = and-true (ltb x 2) (below (inputOf fair G₀ τ r s) 2) (bytes-right false fair τ r e s h) in
-          let hx = ltb-true x 2 (w .0) in
-          (hx, λ y hy. step-same false (not fair) r s x y (state-below false fair τ r e s h) hx hy (below-at (inputOf fair G₀ τ r s) 2 (w .1) y hy))
+          let w = and-true (ltb x (2 ^ i)) (below (inputOf fair G₀ τ r s) (2 ^ o)) (bytes-right false fair τ r e s h) in
+          let hx = ltb-true x (2 ^ i) (w .0) in
+          (hx, λ y hy. step-same false (not fair) r s x y (state-below false fair τ r e s h) hx hy (below-at (inputOf fair G₀ τ r s) (2 ^ o) (w .1) y hy))
 
-  -- the verdict, and with it what it promises of the rule
-  pub verdict : (can fair : Bool) (table r : List ℕ) → winsOf can fair G₀ table r ≡ true → VerdictOn can fair φ G
-  verdict true fair table r e = let w = system-verdict fair table r e in (table, w, can-keep φ 1 1 n t f mask A fair table w)
-  verdict false fair table r e = let w = environment-verdict fair table r e in (table, w, cannot-keep φ 1 1 n t f mask A fair table w)
+  -- the start has a rank, and the player wins from every state that has one
+  pub won : (player fair : Bool) (table r : List ℕ) → winsOf player fair G₀ table r ≡ true → (0 < getD r 0 0) × ((s : ℕ) → 0 < getD r s 0 → WinsFrom player fair G table s)
+  won true fair table r e = (parts true fair table r e .1, system-won fair table r e)
+  won false fair table r e = (parts false fair table r e .1, environment-won fair table r e)
+
+-- the verdict of the player that wins from the start, and with it what it promises of the rule
+pub verdict : (i o : ℕ) (φ : Formula) (n mask : ℕ) (t f : List ℕ) → Automaton φ (letterCount i o) n t f → (player fair : Bool) (table : List ℕ)
+    → WinsFrom player fair (arena i o n t f mask) table 0 → VerdictOn player fair φ (arena i o n t f mask)
+verdict i o φ n mask t f A true fair table w = (table, w, can-keep φ i o n t f mask A fair table w)
+verdict i o φ n mask t f A false fair table w = (table, w, cannot-keep φ i o n t f mask A fair table w)

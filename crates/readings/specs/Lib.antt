@@ -1,3 +1,4 @@
 pub mod Lists
 pub mod Reading
 pub mod Rows
+pub mod Example

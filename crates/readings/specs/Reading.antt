@@ -1,4 +1,4 @@
--- What a row of 01's "Readings of small rules" says: on the text of a rule with i = o = 1, a mode and the text of a condition, the verdict and n.
+-- What a row of 01's "Readings of small rules" says: on i, o, the text of a rule, a mode and the text of a condition, the verdict and n.
 -- It is said of the texts themselves and by the definitions: the grammar's formulas, the number of reachable states, and the plays on the formula's automaton.
 -- Each text has one formula (reader, proofs/Unambiguous: one-formula) and no state is won by both players (game, proofs/Determined: one-winner),
 -- so that "can" excludes "cannot". 01's (d), at its end: the rows are checked together, as one theorem (specs/Rows.antt, proofs/Readings.antt).
@@ -11,7 +11,7 @@ use Rattle.reader.specs.Formula.{Formula}
 use Rattle.reader.specs.Marks.{ruleKind, conditionKind}
 use Rattle.reader.specs.Reading.{IsGood}
 use Rattle.automaton.specs.Limits.{stateLimit}
-use Rattle.automaton.specs.Alphabet.{tooLong, letterCount}
+use Rattle.automaton.specs.Alphabet.{badAlphabet, tooLong, letterCount}
 use Rattle.automaton.specs.Automaton.{Automaton}
 use Rattle.automaton.specs.Condition.{maskOf, Judges}
 use Rattle.automaton.specs.Discovery.{stateCount}
@@ -23,46 +23,60 @@ use Rattle.game.specs.Strategy.{SystemWins, EnvironmentWins}
 use Rattle.game.specs.Rule.{Can, Cannot, Buffers, shortBuffers, RuleSolved}
 use Rattle.readings.specs.Lists.{transitionsOf, flagsOf}
 
--- a row: the bytes of a rule, the mode, the bytes of a condition, whether the station can, and n
+-- a row: i and o, the bytes of a rule, the mode, the bytes of a condition, whether the station can, and n
 pub record Row : Type 0 where
+  pub inputs : ℕ
+  pub outputs : ℕ
   pub rule : List ℕ
   pub mode : Mode
   pub condition : List ℕ
   pub can : Bool
   pub count : ℕ
 
-abbrev pub row : List ℕ → Mode → List ℕ → Bool → ℕ → Row
-row rule mode condition can n = record { rule = rule; mode = mode; condition = condition; can = can; count = n }
+abbrev pub rowOf : ℕ → ℕ → List ℕ → Mode → List ℕ → Bool → ℕ → Row
+rowOf i o rule mode condition can n = record { inputs = i; outputs = o; rule = rule; mode = mode; condition = condition; can = can; count = n }
 
--- the number of letters where i = o = 1
-abbrev pub L : ℕ
-L = letterCount 1 1
+-- a row of 01's list: there i = o = 1
+abbrev pub row : List ℕ → Mode → List ℕ → Bool → ℕ → Row
+row rule mode condition can n = rowOf 1 1 rule mode condition can n
+
+-- the number of its letters
+abbrev pub lettersOf : Row → ℕ
+lettersOf r = letterCount (r .inputs) (r .outputs)
 
 -- the verdict on an arena: a table of the system's that wins from the start and keeps the rule, or one of the environment's
 abbrev pub VerdictOn : Bool → Bool → Formula → Arena → Type 0
 VerdictOn true fair φ G = (σ : List ℕ) × SystemWins fair G σ 0 × Can fair φ G σ
 VerdictOn false fair φ G = (τ : List ℕ) × EnvironmentWins fair G τ 0 × Cannot fair φ G τ
 
--- what the row says: its texts are good and within all limits, the rule has n states, and the verdict holds on the rule's automaton: on the lists and
--- the mask that are computed from the definitions, and on any others that hold the same, such as the rule call's buffers
-pub record Reading (r : Row) : Type 0 where
-  pub formula : Formula
-  pub good : IsGood 1 (ruleKind 1 1) (r .rule) formula
-  pub assumption : Formula
-  pub assumed : IsGood 1 (conditionKind 1) (r .condition) assumption
-  pub judges : Judges assumption 1 (maskOf assumption 1)
-  pub short : (tooLong (r .rule) || tooLong (r .condition)) ≡ false
-  pub counted : r .count ≡ stateCount formula L
-  pub few : r .count ≤ stateLimit
-  pub automaton : Automaton formula L (r .count) (transitionsOf formula L) (flagsOf formula L)
-  pub verdict : (transitions flags : List ℕ) (mask : ℕ) → Automaton formula L (r .count) transitions flags → Judges assumption 1 mask
-      → VerdictOn (r .can) (isFair (r .mode)) formula (arena 1 1 (r .count) transitions flags mask)
+-- the arena of a row: its numbers, and an automaton's lists and a mask
+abbrev pub arenaFor : Row → List ℕ → List ℕ → ℕ → Arena
+arenaFor r transitions flags mask = arena (r .inputs) (r .outputs) (r .count) transitions flags mask
 
--- what the rule call's promise makes of the row: in buffers that are long enough it answers with this verdict and this n
+-- what the row says: i and o are in range, its texts are good and within all limits, the rule has n states, and the verdict holds on the rule's automaton:
+-- on the lists and the mask that are computed from the definitions, and on any others that hold the same, such as the rule call's buffers
+pub record Reading (r : Row) : Type 0 where
+  pub small : badAlphabet (r .inputs) (r .outputs) ≡ false
+  pub formula : Formula
+  pub good : IsGood (r .inputs) (ruleKind (r .inputs) (r .outputs)) (r .rule) formula
+  pub assumption : Formula
+  pub assumed : IsGood (r .inputs) (conditionKind (r .inputs)) (r .condition) assumption
+  pub judges : Judges assumption (r .inputs) (maskOf assumption (r .inputs))
+  pub short : (tooLong (r .rule) || tooLong (r .condition)) ≡ false
+  pub counted : r .count ≡ stateCount formula (lettersOf r)
+  pub few : r .count ≤ stateLimit
+  pub automaton : Automaton formula (lettersOf r) (r .count) (transitionsOf formula (lettersOf r)) (flagsOf formula (lettersOf r))
+  pub verdict : (transitions flags : List ℕ) (mask : ℕ) → Automaton formula (lettersOf r) (r .count) transitions flags → Judges assumption (r .inputs) mask
+      → VerdictOn (r .can) (isFair (r .mode)) formula (arenaFor r transitions flags mask)
+
+-- the rule call's promise for the row's texts
+abbrev pub SolvedFor : Row → Buffers → Buffers → Answer → Type 0
+SolvedFor r old new answer = RuleSolved (isFair (r .mode)) (r .inputs) (r .outputs) (r .rule) (r .condition) old new answer
+
+-- what that promise makes of the row: in buffers that are long enough it answers with this verdict and this n
 abbrev pub Answered : Row → Type 0
 Answered r =
-    (old new : Buffers) (answer : Answer) → shortBuffers 1 1 old ≡ false → RuleSolved (isFair (r .mode)) 1 1 (r .rule) (r .condition) old new answer
-    → answer ≡ verdictOf (r .can) (r .count)
+    (old new : Buffers) (answer : Answer) → shortBuffers (r .inputs) (r .outputs) old ≡ false → SolvedFor r old new answer → answer ≡ verdictOf (r .can) (r .count)
 
 -- P holds of every row of a list
 abbrev pub All : (Row → Type 0) → List Row → Type 0

@@ -113,7 +113,8 @@ fails 'a full disk and a refusal' '"$airtable" "$room/bad.rule" > /dev/full' 'ca
 fails 'a full disk and the help' '"$airtable" --help > /dev/full' 'cannot write standard output'
 fails 'standard output closed' '"$airtable" examples/closed-cue.rule >&-' 'cannot write standard output'
 fails 'standard output closed, the help' '"$airtable" --help >&-' 'cannot write standard output'
-fails 'a pipe without a reader' '{ sleep 0.2; "$airtable" examples/closed-cue.rule || echo "status $?" >&2; } | true; exit 2' 'cannot write standard output' 'status 2'
+fails 'a pipe without a reader' \
+    '{ sleep 0.2; "$airtable" examples/closed-cue.rule || echo "status $?" >&2; } | true; exit 2' 'cannot write standard output' 'status 2'
 dd if=/dev/zero bs=4096 oflag=nonblock >&7 2> /dev/null || true # until it is full; it stays non-blocking
 fails 'a full pipe that does not wait' '"$airtable" examples/closed-cue.rule >&7' 'cannot write standard output: Resource temporarily unavailable'
 dd bs=4096 count=1 <&7 > /dev/null 2>&1
@@ -176,6 +177,7 @@ refuses '1 1\nfair\na\nFp\n ' '14 0' 'the number of lines is 5 and must be 4'
 refuses '1 1\nFair\na\nFp\n' '14 0' "line 2 must be in small letters, 'fair', and is 'Fair'"
 refuses '1 1\nSTABLE\na\nFp\n' '14 0' "line 2 must be in small letters, 'stable', and is 'STABLE'"
 refuses '1 1\nfair \na\nFp\n' '14 0' "line 2 must be 'fair' or 'stable', with nothing before or after it, and is 'fair '"
+refuses '1 1\nfair,stable\na\nFp\n' '14 0' "line 2 must be 'fair' or 'stable', with nothing before or after it, and is 'fair,stable'"
 refuses '1 1\n\na\nFp\n' '14 0' "line 2 must be 'fair' or 'stable', with nothing before or after it, and is ''"
 refuses "1 1\n$(times 100 f)\na\nFp\n" '14 0' "and is '$(times 40 f)..'"
 refuses '1 1\nfa\0000ir\na\nFp\n' '14 0' 'line 2 has a NUL byte (0x00) at byte 3'
@@ -184,7 +186,7 @@ refuses '1 1 \nfair\na\nFp\n' '14 0' "line 1 must be a digit, a blank and a digi
 refuses '1\t1\nfair\na\nFp\n' '14 0' 'line 1 has a tab (0x09) at byte 2'
 refuses '\xef\xbb\xbf1 1\nfair\na\nFp\n' '14 0' 'line 1 has the odd byte 0xef at byte 1'
 refuses '\n\n\n\n' '14 0' "line 1 must be a digit, a blank and a digit, as '1 1', and is ''" "line 2 must be 'fair' or 'stable'"
-runs 'an input without end' 1 $'refused 14 0\n' '"$airtable" /dev/zero' 'the input has more than 2,048 bytes'
+runs 'a file without end' 1 $'refused 14 0\n' 'ulimit -f 100; "$airtable" /dev/zero' 'the input has more than 2,048 bytes'
 
 # ---- builds
 
@@ -283,6 +285,10 @@ for source in crates.txt crates/airtable/stdin crates/airtable/stdout crates/air
     is_built "a change in $source that makes none in the program" $count
     is_fresh "after a change in $source that makes none in the program" $count
 done
+later "$project/crates.txt"
+runs 'a build leaves standard input alone' 0 $'can 1\n0 * S '"$count 5"$'\nmine\n' \
+    "$with_rt"'printf 12345 > "$room/five"; echo mine | { "$airtable" "$room/five"; cat; }' 'proving and building'
+builds 1
 for other in crates/capi/src/lib.rt crates/game/must-fail/one.edit airtable; do
     later "$project/$other"
     is_fresh "a change in $other" $count
@@ -330,7 +336,6 @@ builds 1
 is_built 'a mended build' 27
 
 mkdir "$room/links"
-printf 12345 > "$room/five"
 ln -s "$project/airtable" "$room/links/absolute"
 ln -s "../a project/airtable" "$room/links/relative"
 ln -s relative "$room/links/twice"
@@ -347,7 +352,7 @@ program() { # TEXT: of a shell script in the program's place
 }
 
 program 'wc -c > "$fake/size"; echo refused 14 0'
-runs 'no more is read than need be' 1 $'refused 14 0\n' "$without_rt"'cat /dev/zero | "$airtable"' 'the input has more than 2,048 bytes'
+runs 'no more is read than need be' 1 $'refused 14 0\n' "$without_rt"'ulimit -f 100; cat /dev/zero | "$airtable"' 'the input has more than 2,048 bytes'
 runs 'and no less' 0 $'2049\n' 'cat "$fake/size"'
 program 'echo refused 15 3'
 runs 'a refusal that is not known' 1 $'refused 15 3\n' "$without_rt$five" 'refusal 15, place 3'
@@ -355,7 +360,8 @@ program 'echo "airtable: cannot read standard input" >&2'
 fails 'the program cannot read' "$without_rt$five" 'airtable: cannot read standard input' 'no whole answer'
 program 'printf "can 2\n0 - S 0\n"; echo "airtable: cannot write standard output" >&2'
 fails 'the program cannot write all' "$without_rt$five" 'airtable: cannot write standard output' 'no whole answer'
-for text in '' 'can 2\n0 - S 0\n' 'can 2\n0 - S 0\n1 * S' 'can 1\n0 * S 0\n1 * S 0\n' 'can' 'can\n' 'can x\n' 'refused 4 6' 'refused 4 6\n\n' 'Can 1\n0 * S 0\n' '\n'; do
+for text in '' 'can 2\n0 - S 0\n' 'can 2\n0 - S 0\n1 * S' 'can 1\n0 * S 0\n1 * S 0\n' 'can 1\n0 * S 0\n1' \
+    'can' 'can\n' 'can x\n' 'refused 4 6' 'refused 4 6\n\n' 'Can 1\n0 * S 0\n' '\n'; do
     program "printf '$text'"
     fails "the program prints '$text'" "$without_rt$five" 'the program gave no whole answer'
 done

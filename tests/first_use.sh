@@ -190,13 +190,14 @@ runs 'a file without end' 1 $'refused 14 0\n' 'ulimit -f 100; "$airtable" /dev/z
 
 # ---- builds
 
-# A project with the script, crates.txt, sources of long ago, and a PATH with the tools that the script needs and a fake rt. That one
+# A project with the script, sources of long ago, and for PATH a folder with the tools that are needed and one with a fake rt. That one
 # notes its call, reads all that it is given to read, does what the file `deed` says, and builds a program that prints the version that
 # the file `version` has and how many bytes it read. A program that is the same already it leaves alone.
 project="$room/a project"
 airtable=$project/airtable
 mkdir -p "$project/crates/airtable" "$room/tools" "$room/fake"
-cp airtable crates.txt "$project"
+cp airtable "$project"
+printf '# a: capi\nreader:\nautomaton: reader # capi\ngame: reader automaton\ncapi: game\n\nlisting: game\n\t airtable : io listing libc\n' > "$project/crates.txt"
 for crate in reader automaton game listing airtable capi; do
     mkdir -p "$project/crates/$crate"/{src,specs,proofs/main,must-fail}
     touch "$project/crates/$crate"/{src/lib.rt,specs/Spec.antt,proofs/main/Proof.antt,must-fail/one.edit}

@@ -1,6 +1,6 @@
 #!/usr/bin/env bash
 # The test run: proves every crate from nothing, tries the must-fail edits and runs the programs; then the independent
-# solver's own tests, the comparison of the C interface and of the program airtable with it, the examples, and the one in C.
+# solver's own tests, the comparison of the C interface and of the program airtable with it, the examples, first use, and the example in C.
 # The benchmarks (bench/run) are built and not run: nothing here is timed.
 # Its last line is rt ci's 'N passed, 0 failed', printed only when everything else passed too.
 set -euo pipefail
@@ -19,7 +19,8 @@ for rule in examples/*.rule; do
     ./airtable "$rule" | diff "${rule%.rule}.listing" -
 done
 echo "examples/*.rule: as expected"
-deep=$(printf '%127s' | tr ' ' '(')a$(printf '%127s' | tr ' ' ')')
+tests/first_use.sh
+deep=$(printf '%127s' '' | tr ' ' '(')a$(printf '%127s' '' | tr ' ' ')')
 (ulimit -s 256 && printf '1 0\nfair\n1\n%s\n' "$deep" | env -i target/bin/airtable) | diff <(printf '1 0\nfair\n1\na\n' | ./airtable) -
 echo "the deepest text: as expected, with a stack of 256 KB"
 

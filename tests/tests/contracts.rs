@@ -30,6 +30,7 @@ const PROMISES: &[Row] = &[
     ("game::given::solve_given", &["GivenSolved"]),
     ("game::follow::Position::follow", &["FollowedBy"]),
     ("listing::list::list", &["Listed"]),
+    ("listing::respond::respond", &["Responded"]),
     ("capi::airtable_solve_rule", &["RuleWritten"]),
     ("capi::airtable_solve_given", &["GivenWritten"]),
     ("capi::airtable_follow", &["StepWritten"]),

@@ -4,11 +4,10 @@ use Prim.Native.Nat.{ℕ}
 use mathlib.Core.Bool.{Bool, true, false, not, _&&_, _||_}
 use mathlib.Core.List.{List, [], _∷_}
 use lib.Dec.{eqb, leb}
-use Rattle.reader.specs.Limits.{nodeLimit, operatorLimit}
+use Rattle.reader.specs.Limits.{nodeLimit, operatorLimit, tooLong}
 use Rattle.reader.specs.Formula.{Formula, size, operators}
 use Rattle.reader.specs.Marks.{ruleKind, conditionKind, kindIn}
 use Rattle.automaton.specs.Limits.{stateLimit}
-use Rattle.automaton.specs.Alphabet.{tooLong}
 use Rattle.automaton.specs.Condition.{maskOf}
 use Rattle.automaton.specs.Discovery.{stateCount}
 use Rattle.game.specs.Arena.{Arena, arena, isFair}

@@ -6,14 +6,14 @@ use mathlib.Core.Bool.{Bool, true, false, not, _&&_, _||_}
 use mathlib.Core.List.{List, [], _∷_}
 use native.Mathlib.Omega.{arith}
 use lib.Dec.{eqb, leb}
-use borrow.Author.Tests.{eqb-true, leb-true}
-use Rattle.reader.specs.Limits.{nodeLimit, operatorLimit}
+use lib.ListN.{length}
+use borrow.Author.Tests.{eqb-true, leb-true, ltb-false}
+use Rattle.reader.specs.Limits.{textLimit, nodeLimit, operatorLimit, tooLong}
 use Rattle.reader.specs.Formula.{Formula, size, operators}
 use Rattle.reader.specs.Marks.{ruleKind, conditionKind}
-use Rattle.reader.proofs.BoolLaws.{on, clash, and-true, not-true→}
+use Rattle.reader.proofs.BoolLaws.{on, clash, or-left, or-right, and-true, not-true→}
 use Rattle.reader.proofs.StaticLaws.{static}
 use Rattle.automaton.specs.Limits.{stateLimit}
-use Rattle.automaton.specs.Alphabet.{tooLong}
 use Rattle.automaton.specs.Bits.{bit}
 use Rattle.automaton.specs.Automaton.{Automaton}
 use Rattle.automaton.specs.Condition.{maskOf, Judges}
@@ -65,6 +65,12 @@ module _ (r : Row) (c : Certificate) (e : passes r c ≡ true) where
       let v = and-true x y (u .1) in
       (not-true→ long (u .0), v .0, v .1)
 
+  fits : (length (r .rule) ≤ textLimit) × (length (r .condition) ≤ textLimit)
+  fits = (
+    ltb-false textLimit (length (r .rule)) (or-left (tooLong (r .rule)) (tooLong (r .condition)) (texts .0)),
+    ltb-false textLimit (length (r .condition)) (or-right (tooLong (r .rule)) (tooLong (r .condition)) (texts .0)),
+  )
+
   sizes : (size φ ≤ nodeLimit) × (operators φ ≤ operatorLimit) × (size κ ≤ nodeLimit)
   unfolding sizesPass
   sizes =
@@ -90,9 +96,9 @@ module _ (r : Row) (c : Certificate) (e : passes r c ≡ true) where
       subst (λ (m : ℕ). Automaton φ L m (transitionsOf φ L) (flagsOf φ L)) (sym n) (computed φ L (omega arith) (omega arith)) in
       record {
         formula = φ;
-        good = record { reads = read; few-nodes = sizes .0; few-operators = sizes .1 };
+        good = record { short = fits .0; reads = read; few-nodes = sizes .0; few-operators = sizes .1 };
         assumption = κ;
-        assumed = record { reads = read-condition; few-nodes = sizes .2; few-operators = omega arith };
+        assumed = record { short = fits .1; reads = read-condition; few-nodes = sizes .2; few-operators = omega arith };
         judges = mask-judges κ 1 still;
         short = texts .0;
         counted = n;

@@ -13,6 +13,7 @@ type Row = (&'static str, &'static [&'static str]);
 
 /// A new public function gets a row here.
 const PROMISES: &[Row] = &[
+    ("reader::reading::too_long", &["tooLong"]),
     ("reader::reading::check", &["ReadingOf"]),
     ("reader::reading::read", &["ReadingOf", "Written"]),
     ("reader::refusal::rule_refusal", &["afterRule reading Nothing"]),
@@ -20,7 +21,6 @@ const PROMISES: &[Row] = &[
     ("reader::refusal::number_of", &["numberOf"]),
     ("reader::refusal::place_of", &["placeOf"]),
     ("automaton::alphabet::bad_alphabet", &["badAlphabet"]),
-    ("automaton::alphabet::too_long", &["tooLong"]),
     ("automaton::alphabet::power", &["cond (ltb k 9) (2 ^ k) 0"]),
     ("automaton::alphabet::first_over", &["firstOver"]),
     ("automaton::construct::construct", &["Constructed"]),

@@ -11,6 +11,7 @@ use Rattle.reader.specs.declared.reading.Reading.the-variants.{Good}
 use Rattle.reader.specs.declared.refusal.Refusal.{Refusal}
 use Rattle.reader.specs.declared.refusal.Refusal.the-variants.{Nothing, Alphabet, TextLength}
 use Rattle.reader.specs.declared.marks.Kind.{Kind}
+use Rattle.reader.specs.Limits.{tooLong}
 use Rattle.reader.specs.Formula.{Formula, operators}
 use Rattle.reader.specs.Marks.{kindIn, conditionKind}
 use Rattle.reader.specs.Grammar.{Derives, operand, prefix, parens, lower, infixed, Reads}
@@ -20,7 +21,7 @@ use Rattle.reader.proofs.RefusalLaws.{something, NotGood, condition-refused}
 use Rattle.reader.proofs.Unambiguous.{some-reading}
 use Rattle.automaton.specs.declared.condition.Assumption.{Assumption}
 use Rattle.automaton.specs.declared.condition.Assumption.the-variants.{Mask, Refused}
-use Rattle.automaton.specs.Alphabet.{badAlphabet, tooLong}
+use Rattle.automaton.specs.Alphabet.{badAlphabet}
 use Rattle.automaton.specs.Bits.{bit, word}
 use Rattle.automaton.specs.Trace.{Satisfies}
 use Rattle.automaton.specs.Valuation.{value}

@@ -12,6 +12,7 @@ use Rattle.reader.specs.declared.reading.Reading.{Reading}
 use Rattle.reader.specs.declared.reading.Reading.the-variants.{Good}
 use Rattle.reader.specs.declared.refusal.Refusal.{Refusal}
 use Rattle.reader.specs.declared.refusal.Refusal.the-variants.{Nothing, Alphabet, TextLength, Buffer, StateCount}
+use Rattle.reader.specs.Limits.{tooLong}
 use Rattle.reader.specs.Formula.{Formula, size}
 use Rattle.reader.specs.Marks.{ruleKind}
 use Rattle.reader.specs.Reading.{ReadingOf, IsGood}
@@ -22,7 +23,7 @@ use Rattle.reader.proofs.Unambiguous.{one-formula, some-reading}
 use Rattle.automaton.specs.declared.construct.Construction.{Construction}
 use Rattle.automaton.specs.declared.construct.Construction.the-variants.{Built, Refused}
 use Rattle.automaton.specs.Limits.{stateLimit}
-use Rattle.automaton.specs.Alphabet.{badAlphabet, tooLong, letterCount}
+use Rattle.automaton.specs.Alphabet.{badAlphabet, letterCount}
 use Rattle.automaton.specs.Discovery.{stateCount}
 use Rattle.automaton.specs.Construction.{CountOf, shortAutomaton, constructRefusal, Constructed}
 use Rattle.automaton.specs.Exploration.{WithinLimit, BeyondLimit}

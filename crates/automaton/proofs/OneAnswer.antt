@@ -7,7 +7,7 @@ use mathlib.Core.Bool.{Bool, true, false, cond}
 use mathlib.Core.List.{List}
 use mathlib.Core.Logic.{_↔_, _⊎_, ⊎-elim}
 use Rattle.reader.specs.declared.reading.Reading.{Reading}
-use Rattle.reader.specs.declared.reading.Reading.the-variants.{Good, Bad, TooManyNodes, TooManyOperators}
+use Rattle.reader.specs.declared.reading.Reading.the-variants.{Good, TooLong, Bad, TooManyNodes, TooManyOperators}
 use Rattle.reader.specs.declared.refusal.Refusal.{Refusal}
 use Rattle.reader.specs.declared.refusal.Refusal.the-variants.{Nothing}
 use Rattle.reader.specs.Formula.{Formula}
@@ -75,6 +75,7 @@ one-refusal : (i o : ℕ) (text t a : List ℕ) (ρ : Reading) (n m : ℕ) → R
     → constructRefusal i o text t a ρ n ≡ constructRefusal i o text t a ρ m
 unfolding ReadingOf constructRefusal
 one-refusal i o text t a (Good k) n m r c d = ap (constructRefusal i o text t a (Good k)) (c (r .0) (r .1) ∙ sym (d (r .0) (r .1)))
+one-refusal i o text t a TooLong n m r c d = refl
 one-refusal i o text t a (Bad k) n m r c d = refl
 one-refusal i o text t a TooManyNodes n m r c d = refl
 one-refusal i o text t a TooManyOperators n m r c d = refl

@@ -8,7 +8,7 @@ use native.Mathlib.Omega.{arith}
 use lib.ListN.{length, replicate}
 use lib.Seq.{sets}
 use Rattle.reader.specs.declared.reading.Reading.{Reading}
-use Rattle.reader.specs.declared.reading.Reading.the-variants.{Good, Bad, TooManyNodes, TooManyOperators}
+use Rattle.reader.specs.declared.reading.Reading.the-variants.{Good, TooLong, Bad, TooManyNodes, TooManyOperators}
 use Rattle.reader.specs.Limits.{nodeLimit}
 use Rattle.reader.specs.Formula.{Formula, size, operators}
 use Rattle.reader.specs.Marks.{kindIn, ruleKind}
@@ -44,8 +44,9 @@ read-represents i o t text nodes ρ n e a b =
 pub count-of : (i o : ℕ) (text : List ℕ) (ρ : Reading) → ReadingOf i (ruleKind i o) text ρ → (n : ℕ) × CountOf i o text n
 unfolding ReadingOf
 count-of i o text (Good n) r = (stateCount (r .0) (letterCount i o), λ φ g. ap (λ (ψ : Formula). stateCount ψ (letterCount i o)) (one-formula i o true text (r .1 .reads) (g .reads)))
-count-of i o text (Bad k) r = (0, λ φ g. absurd (never-both i o true text (g .reads) r))
+count-of i o text TooLong r = (0, λ φ g. let h = g .short in let z : ⊥ = omega (arith, r) in absurd z)
+count-of i o text (Bad k) r = (0, λ φ g. absurd (never-both i o true text (g .reads) (r .1)))
 count-of i o text TooManyNodes r =
-    (0, λ φ g. let e = ap size (one-formula i o true text (r .1) (g .reads)) in let f = g .few-nodes in let z : ⊥ = omega (arith, r .2) in absurd z)
+    (0, λ φ g. let e = ap size (one-formula i o true text (r .2) (g .reads)) in let f = g .few-nodes in let z : ⊥ = omega (arith, r .3) in absurd z)
 count-of i o text TooManyOperators r =
-    (0, λ φ g. let e = ap operators (one-formula i o true text (r .1) (g .reads)) in let f = g .few-operators in let z : ⊥ = omega (arith, r .3) in absurd z)
+    (0, λ φ g. let e = ap operators (one-formula i o true text (r .2) (g .reads)) in let f = g .few-operators in let z : ⊥ = omega (arith, r .4) in absurd z)

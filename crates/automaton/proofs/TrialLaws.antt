@@ -13,6 +13,7 @@ use Rattle.reader.specs.declared.reading.Reading.{Reading}
 use Rattle.reader.specs.declared.reading.Reading.the-variants.{Good}
 use Rattle.reader.specs.declared.refusal.Refusal.{Refusal}
 use Rattle.reader.specs.declared.refusal.Refusal.the-variants.{Nothing, Alphabet, TextLength, Value}
+use Rattle.reader.specs.Limits.{tooLong}
 use Rattle.reader.specs.Formula.{Formula}
 use Rattle.reader.specs.Marks.{ruleKind}
 use Rattle.reader.specs.Reading.{ReadingOf, IsGood}
@@ -21,7 +22,7 @@ use Rattle.reader.proofs.RefusalLaws.{something, NotGood, rule-refused}
 use Rattle.reader.proofs.Unambiguous.{some-reading}
 use Rattle.automaton.specs.declared.trial.Trial.{Trial}
 use Rattle.automaton.specs.declared.trial.Trial.the-variants.{Satisfied, Violated, Refused}
-use Rattle.automaton.specs.Alphabet.{badAlphabet, tooLong, letterCount}
+use Rattle.automaton.specs.Alphabet.{badAlphabet, letterCount}
 use Rattle.automaton.specs.Trace.{Satisfies}
 use Rattle.automaton.specs.Trial.{firstOver, afterList, trialRefusal, trialNumber, trialPlace, Judged, Tried}
 

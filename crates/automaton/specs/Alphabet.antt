@@ -4,16 +4,10 @@ use Prim.Native.Nat.{ℕ, _+_, _*_, _^_, _<_}
 use mathlib.Core.Bool.{Bool, _||_}
 use mathlib.Core.List.{List, [], _∷_}
 use lib.Dec.{ltb}
-use lib.ListN.{length}
-use Rattle.reader.specs.Limits.{textLimit}
 
 -- refusal 1: more than 4 inputs or outputs
 abbrev pub badAlphabet : ℕ → ℕ → Bool
 badAlphabet i o = ltb 4 i || ltb 4 o
-
--- refusal 2: a text over 255 bytes
-abbrev pub tooLong : List ℕ → Bool
-tooLong text = ltb textLimit (length text)
 
 -- the number L of letters
 abbrev pub letterCount : ℕ → ℕ → ℕ

@@ -9,13 +9,14 @@ use mathlib.Core.Logic.{_↔_}
 use Rattle.reader.specs.declared.reading.Reading.{Reading}
 use Rattle.reader.specs.declared.refusal.Refusal.{Refusal}
 use Rattle.reader.specs.declared.refusal.Refusal.the-variants.{Nothing, Alphabet, TextLength}
+use Rattle.reader.specs.Limits.{tooLong}
 use Rattle.reader.specs.Formula.{Formula}
 use Rattle.reader.specs.Marks.{conditionKind}
 use Rattle.reader.specs.Reading.{ReadingOf, IsGood}
 use Rattle.reader.specs.Refusal.{numberOf, placeOf, afterCondition}
 use Rattle.automaton.specs.declared.condition.Assumption.{Assumption}
 use Rattle.automaton.specs.declared.condition.Assumption.the-variants.{Mask, Refused}
-use Rattle.automaton.specs.Alphabet.{badAlphabet, tooLong}
+use Rattle.automaton.specs.Alphabet.{badAlphabet}
 use Rattle.automaton.specs.Bits.{bit, word}
 use Rattle.automaton.specs.Trace.{Satisfies}
 use Rattle.automaton.specs.Valuation.{value}

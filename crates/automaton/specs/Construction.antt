@@ -10,6 +10,7 @@ use lib.ListN.{length}
 use Rattle.reader.specs.declared.reading.Reading.{Reading}
 use Rattle.reader.specs.declared.refusal.Refusal.{Refusal}
 use Rattle.reader.specs.declared.refusal.Refusal.the-variants.{Nothing, Alphabet, TextLength, Buffer, StateCount}
+use Rattle.reader.specs.Limits.{tooLong}
 use Rattle.reader.specs.Formula.{Formula}
 use Rattle.reader.specs.Marks.{ruleKind}
 use Rattle.reader.specs.Reading.{ReadingOf, IsGood}
@@ -17,7 +18,7 @@ use Rattle.reader.specs.Refusal.{numberOf, placeOf, isNothing, afterRule}
 use Rattle.automaton.specs.declared.construct.Construction.{Construction}
 use Rattle.automaton.specs.declared.construct.Construction.the-variants.{Built, Refused}
 use Rattle.automaton.specs.Limits.{stateLimit}
-use Rattle.automaton.specs.Alphabet.{badAlphabet, tooLong, letterCount}
+use Rattle.automaton.specs.Alphabet.{badAlphabet, letterCount}
 use Rattle.automaton.specs.Discovery.{stateCount}
 use Rattle.automaton.specs.Automaton.{Automaton, TooManyStates, Cleared}
 

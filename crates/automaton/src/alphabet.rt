@@ -3,7 +3,7 @@ ghost use mathlib.Core.Path.{_≡_};
 ghost use mathlib.Core.Bool.{cond};
 ghost use Prim.Native.Nat.{_^_};
 ghost use lib.Dec.{ltb};
-ghost use Rattle.automaton.specs.Alphabet.{badAlphabet, tooLong};
+ghost use Rattle.automaton.specs.Alphabet.{badAlphabet};
 ghost use Rattle.automaton.specs.Trial.{firstOver};
 
 // Whether i or o is above 4.
@@ -14,13 +14,6 @@ pub fn bad_alphabet(i: usize, o: usize) -> bool
         return true;
     }
     4 < o
-}
-
-// Whether a text is over 255 bytes.
-pub fn too_long(text: &[u8]) -> bool
-    ensures { λ r. ⌜ r ≡ tooLong (now (text .entry)) ⌝ }
-{
-    255 < text.len()
 }
 
 // 2 to the power k, for a k up to 8; 0 for any other.

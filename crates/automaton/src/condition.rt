@@ -2,10 +2,10 @@
 ghost use Rattle.automaton.specs.Condition.{Conditioned};
 use crate::alphabet::bad_alphabet;
 use crate::alphabet::power;
-use crate::alphabet::too_long;
 use crate::mask::condition_mask;
 use reader::reading::Reading;
 use reader::reading::read;
+use reader::reading::too_long;
 use reader::refusal::Refusal;
 use reader::refusal::condition_refusal;
 

@@ -9,13 +9,13 @@ ghost use Rattle.automaton.specs.Exploration.{BuiltAutomaton};
 ghost use Rattle.automaton.specs.Construction.{shortAutomaton, Constructed};
 use crate::alphabet::bad_alphabet;
 use crate::alphabet::power;
-use crate::alphabet::too_long;
 use crate::explore::build;
 use crate::operators::operator_count;
 use crate::tabulate::tabulate;
 use crate::valuation::end_vector;
 use reader::reading::Reading;
 use reader::reading::read;
+use reader::reading::too_long;
 use reader::refusal::Refusal;
 use reader::refusal::rule_refusal;
 

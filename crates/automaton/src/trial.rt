@@ -3,11 +3,11 @@ ghost use Rattle.automaton.specs.Trial.{Tried};
 use crate::alphabet::bad_alphabet;
 use crate::alphabet::first_over;
 use crate::alphabet::power;
-use crate::alphabet::too_long;
 use crate::fold::satisfied;
 use crate::operators::operator_count;
 use reader::reading::Reading;
 use reader::reading::read;
+use reader::reading::too_long;
 use reader::refusal::Refusal;
 use reader::refusal::rule_refusal;
 

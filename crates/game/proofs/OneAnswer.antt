@@ -9,7 +9,7 @@ use mathlib.Core.Logic.{_⊎_, ⊎-elim}
 use native.Mathlib.Omega.{arith}
 use lib.Pow.{pow-pos}
 use Rattle.reader.specs.declared.reading.Reading.{Reading}
-use Rattle.reader.specs.declared.reading.Reading.the-variants.{Good, Bad, TooManyNodes, TooManyOperators}
+use Rattle.reader.specs.declared.reading.Reading.the-variants.{Good, TooLong, Bad, TooManyNodes, TooManyOperators}
 use Rattle.reader.specs.declared.refusal.Refusal.{Refusal}
 use Rattle.reader.specs.declared.refusal.Refusal.the-variants.{Nothing}
 use Rattle.reader.specs.Formula.{Formula}
@@ -54,6 +54,7 @@ one-refusal : (i o : ℕ) (rule condition : List ℕ) (old : Buffers) (ρ κ : R
     → ruleRefusal i o rule condition old ρ κ n ≡ ruleRefusal i o rule condition old ρ κ m
 unfolding ReadingOf ruleRefusal
 one-refusal i o rule condition old (Good k) κ n m r c d = ap (ruleRefusal i o rule condition old (Good k) κ) (c (r .0) (r .1) ∙ sym (d (r .0) (r .1)))
+one-refusal i o rule condition old TooLong κ n m r c d = refl
 one-refusal i o rule condition old (Bad k) κ n m r c d = refl
 one-refusal i o rule condition old TooManyNodes κ n m r c d = refl
 one-refusal i o rule condition old TooManyOperators κ n m r c d = refl

@@ -23,7 +23,7 @@ use Rattle.reader.proofs.Unambiguous.{one-reading}
 use Rattle.automaton.specs.declared.construct.Construction.{Construction}
 use Rattle.automaton.specs.declared.construct.Construction.the-variants.{Built, Refused as Unbuilt}
 use Rattle.automaton.specs.Limits.{stateLimit}
-use Rattle.automaton.specs.Alphabet.{badAlphabet, tooLong, letterCount}
+use Rattle.automaton.specs.Alphabet.{badAlphabet, letterCount}
 use Rattle.automaton.specs.Condition.{maskOf}
 use Rattle.automaton.specs.Construction.{shortAutomaton, constructRefusal, Constructed, Served as AutomatonServed}
 use Rattle.automaton.proofs.ReadLaws.{count-of}

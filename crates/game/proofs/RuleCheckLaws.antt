@@ -10,9 +10,10 @@ use lib.Dec.{ltb}
 use lib.ListN.{length}
 use borrow.Author.Tests.{le-ltb, lt-ltb}
 use Rattle.reader.specs.declared.reading.Reading.{Reading}
-use Rattle.reader.specs.declared.reading.Reading.the-variants.{Good, Bad, TooManyNodes, TooManyOperators}
+use Rattle.reader.specs.declared.reading.Reading.the-variants.{Good, TooLong, Bad, TooManyNodes, TooManyOperators}
 use Rattle.reader.specs.declared.refusal.Refusal.{Refusal}
 use Rattle.reader.specs.declared.refusal.Refusal.the-variants.{Nothing, Alphabet, TextLength, Buffer, StateCount}
+use Rattle.reader.specs.Limits.{tooLong}
 use Rattle.reader.specs.Formula.{Formula}
 use Rattle.reader.specs.Marks.{ruleKind, conditionKind}
 use Rattle.reader.specs.Reading.{ReadingOf, IsGood}
@@ -23,7 +24,7 @@ use Rattle.reader.proofs.Unambiguous.{some-reading}
 use Rattle.automaton.specs.declared.condition.Assumption.{Assumption}
 use Rattle.automaton.specs.declared.condition.Assumption.the-variants.{Mask, Refused}
 use Rattle.automaton.specs.Limits.{stateLimit}
-use Rattle.automaton.specs.Alphabet.{badAlphabet, tooLong, letterCount}
+use Rattle.automaton.specs.Alphabet.{badAlphabet, letterCount}
 use Rattle.automaton.specs.Condition.{Judges, maskOf, conditionRefusal, Conditioned}
 use Rattle.automaton.proofs.AlphabetLaws.{inputs-fit}
 use Rattle.game.specs.Rule.{Buffers, shortBuffers, ruleRefusal}
@@ -74,6 +75,7 @@ record MaskedBy (i : ℕ) (condition : List ℕ) (mask : ℕ) : Type 0 where
 
 served-good : (κ : Reading) → afterCondition κ Nothing ≡ Nothing → (n : ℕ) × (κ ≡ Good n)
 served-good (Good n) e = (n, refl)
+served-good TooLong e = absurd (something (afterCondition TooLong Nothing) refl e)
 served-good (Bad k) e = absurd (something (afterCondition (Bad k) Nothing) refl e)
 served-good TooManyNodes e = absurd (something (afterCondition TooManyNodes Nothing) refl e)
 served-good TooManyOperators e = absurd (something (afterCondition TooManyOperators Nothing) refl e)

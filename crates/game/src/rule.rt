@@ -1,7 +1,8 @@
 // The rule call.
 ghost use mathlib.Core.Path.{_≡_};
 ghost use mathlib.Core.Bool.{false};
-ghost use Rattle.automaton.specs.Alphabet.{badAlphabet, tooLong};
+ghost use Rattle.reader.specs.Limits.{tooLong};
+ghost use Rattle.automaton.specs.Alphabet.{badAlphabet};
 ghost use Rattle.game.specs.Arena.{isFair};
 ghost use Rattle.game.specs.Rule.{Buffers, buffers, shortBuffers, RuleSolved};
 ghost use Rattle.game.specs.RuleChecks.{RuleChecked};
@@ -11,13 +12,13 @@ use crate::checks::game_of;
 use crate::tables::decide;
 use automaton::alphabet::bad_alphabet;
 use automaton::alphabet::power;
-use automaton::alphabet::too_long;
 use automaton::condition::Assumption;
 use automaton::condition::read_condition;
 use automaton::construct::Construction;
 use automaton::construct::construct;
 use reader::reading::Reading;
 use reader::reading::check;
+use reader::reading::too_long;
 use reader::refusal::Refusal;
 use reader::refusal::rule_refusal;
 

@@ -13,14 +13,15 @@ use lib.Pow.{pow-mono}
 use lib.Seq.{take-all, take-append-seam}
 use borrow.Author.Tests.{eqb-true, eqb-false, ltb-false}
 use Rattle.reader.specs.declared.reading.Reading.{Reading}
-use Rattle.reader.specs.declared.reading.Reading.the-variants.{Good, Bad, TooManyNodes, TooManyOperators}
+use Rattle.reader.specs.declared.reading.Reading.the-variants.{Good, TooLong, Bad, TooManyNodes, TooManyOperators}
 use Rattle.reader.specs.declared.refusal.Refusal.{Refusal}
 use Rattle.reader.specs.declared.refusal.Refusal.the-variants.{Nothing, Alphabet, TextLength, Buffer, RuleText, RuleNodes, RuleOperators, ConditionText, ConditionNodes, StateCount, GivenCount, Move, State, Value}
 use Rattle.reader.specs.declared.marks.Kind.{Kind}
+use Rattle.reader.specs.Limits.{tooLong}
 use Rattle.reader.specs.Reading.{ReadingOf}
 use Rattle.reader.specs.Refusal.{numberOf, placeOf, afterRule, afterCondition}
 use Rattle.reader.proofs.BoolLaws.{on, or-left, or-right}
-use Rattle.automaton.specs.Alphabet.{badAlphabet, tooLong}
+use Rattle.automaton.specs.Alphabet.{badAlphabet}
 use Rattle.automaton.specs.Limits.{stateLimit}
 use Rattle.game.specs.declared.answer.Answer.{Answer}
 use Rattle.game.specs.declared.answer.Answer.the-variants.{Refused}
@@ -47,25 +48,26 @@ number-small (Move k) = omega arith
 number-small State = omega arith
 number-small (Value k) = omega arith
 
--- the place of a bad text that is not too long
-place-within : (i : ℕ) (kind : ℕ → Kind) (text : List ℕ) (ρ : Reading) → ReadingOf i kind text ρ → tooLong text ≡ false → (k : ℕ) → ρ ≡ Bad k → k ≤ 255
+-- the place of a bad text
+place-within : (i : ℕ) (kind : ℕ → Kind) (text : List ℕ) (ρ : Reading) → ReadingOf i kind text ρ → (k : ℕ) → ρ ≡ Bad k → k ≤ 255
 unfolding ReadingOf
-place-within i kind text ρ h l k e =
+place-within i kind text ρ h k e =
     let p : ReadingOf i kind text (Bad k) = subst (λ (x : Reading). ReadingOf i kind text x) e h in
-    let b : length text ≤ 255 = ltb-false 255 (length text) l in
-    omega (arith, p .within)
+    omega (arith, p .0, p .1 .within)
 
-place-small : (a b c d : Bool) (ρ κ : Reading) → (b ≡ false → (k : ℕ) → ρ ≡ Bad k → k ≤ 255) → (b ≡ false → (k : ℕ) → κ ≡ Bad k → k ≤ 255)
+place-small : (a b c d : Bool) (ρ κ : Reading) → ((k : ℕ) → ρ ≡ Bad k → k ≤ 255) → ((k : ℕ) → κ ≡ Bad k → k ≤ 255)
     → placeOf (cond a Alphabet (cond b TextLength (cond c Buffer (afterRule ρ (afterCondition κ (cond d StateCount Nothing)))))) ≤ 255
 place-small true b c d ρ κ f g = omega arith
 place-small false true c d ρ κ f g = omega arith
 place-small false false true d ρ κ f g = omega arith
 place-small false false false true (Good n) (Good m) f g = omega arith
 place-small false false false false (Good n) (Good m) f g = omega arith
-place-small false false false d (Good n) (Bad k) f g = g refl k refl
+place-small false false false d (Good n) TooLong f g = omega arith
+place-small false false false d (Good n) (Bad k) f g = g k refl
 place-small false false false d (Good n) TooManyNodes f g = omega arith
 place-small false false false d (Good n) TooManyOperators f g = omega arith
-place-small false false false d (Bad k) κ f g = f refl k refl
+place-small false false false d TooLong κ f g = omega arith
+place-small false false false d (Bad k) κ f g = f k refl
 place-small false false false d TooManyNodes κ f g = omega arith
 place-small false false false d TooManyOperators κ f g = omega arith
 
@@ -79,8 +81,8 @@ module _ {fair : Bool} {i o : ℕ} {rule condition : List ℕ} {old new : Buffer
   refusal-place =
       subst (λ (x : Refusal). placeOf x ≤ 255) (sym (m .first))
       (place-small (badAlphabet i o) (tooLong rule || tooLong condition) (shortBuffers i o old) (ltb stateLimit (m .states)) (m .reading) (m .condition-reading)
-      (λ b. place-within i _ rule (m .reading) (m .read) (or-left (tooLong rule) (tooLong condition) b))
-      (λ b. place-within i _ condition (m .condition-reading) (m .condition-read) (or-right (tooLong rule) (tooLong condition) b)))
+      (place-within i _ rule (m .reading) (m .read))
+      (place-within i _ condition (m .condition-reading) (m .condition-read)))
 
   module _ (z : numberOf (m .refusal) ≡ 0) where
     small : badAlphabet i o ≡ false

@@ -10,12 +10,13 @@ use lib.Dec.{eqb, ltb}
 use lib.ListN.{length, take, drop}
 use borrow.Author.Tests.{eqb-true, eqb-false, ltb-false}
 use Rattle.reader.specs.declared.reading.Reading.{Reading}
-use Rattle.reader.specs.declared.reading.Reading.the-variants.{Good, Bad, TooManyNodes, TooManyOperators}
+use Rattle.reader.specs.declared.reading.Reading.the-variants.{Good, TooLong, Bad, TooManyNodes, TooManyOperators}
 use Rattle.reader.specs.declared.refusal.Refusal.{Refusal}
 use Rattle.reader.specs.declared.refusal.Refusal.the-variants.{Nothing, Alphabet, TextLength, Buffer, RuleText, RuleNodes, RuleOperators, ConditionText, ConditionNodes, StateCount, GivenCount, Move, State, Value}
+use Rattle.reader.specs.Limits.{tooLong}
 use Rattle.reader.specs.Refusal.{numberOf, afterRule, afterCondition}
 use Rattle.reader.proofs.BoolLaws.{on, clash}
-use Rattle.automaton.specs.Alphabet.{badAlphabet, tooLong}
+use Rattle.automaton.specs.Alphabet.{badAlphabet}
 use Rattle.automaton.specs.Limits.{stateLimit}
 use Rattle.game.specs.declared.answer.Answer.{Answer}
 use Rattle.game.specs.declared.answer.Answer.the-variants.{Can, Cannot, Refused}
@@ -52,9 +53,11 @@ over-refused true b c ρ κ e = omega arith
 over-refused false true c ρ κ e = omega arith
 over-refused false false true ρ κ e = omega arith
 over-refused false false false (Good n) (Good m) e = omega arith
+over-refused false false false (Good n) TooLong e = omega arith
 over-refused false false false (Good n) (Bad m) e = omega arith
 over-refused false false false (Good n) TooManyNodes e = omega arith
 over-refused false false false (Good n) TooManyOperators e = omega arith
+over-refused false false false TooLong κ e = omega arith
 over-refused false false false (Bad k) κ e = omega arith
 over-refused false false false TooManyNodes κ e = omega arith
 over-refused false false false TooManyOperators κ e = omega arith

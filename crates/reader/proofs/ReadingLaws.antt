@@ -1,17 +1,19 @@
--- From the pass and the counts of a text to its reading, and from its reading to its nodes.
+-- From the length, the pass and the counts of a text to its reading, and from its reading to its nodes.
 -- Assumes nothing.
 use mathlib.Core.Path.{_≡_, refl, sym, subst, _∙_}
 use mathlib.Core.Bool.{Bool, true, false}
 use mathlib.Core.List.{List, [], append-nil}
 use Prim.Native.Nat.{ℕ, suc, _≤_, _<_}
 use native.Mathlib.Omega.{arith}
+use lib.ListN.{length}
+use borrow.Author.Tests.{ltb-true, ltb-false}
 use Rattle.reader.specs.declared.marks.Kind.{Kind}
 use Rattle.reader.specs.declared.marks.Kind.the-variants.{Operand, Prefix, Infix, Open, Close}
 use Rattle.reader.specs.declared.scan.Scanned.the-variants.{Whole, Stopped}
 use Rattle.reader.specs.declared.reading.Reading.{Reading}
-use Rattle.reader.specs.declared.reading.Reading.the-variants.{Good, Bad, TooManyNodes, TooManyOperators}
+use Rattle.reader.specs.declared.reading.Reading.the-variants.{Good, TooLong, Bad, TooManyNodes, TooManyOperators}
 use Rattle.reader.specs.declared.levels.Pos.{Pos}
-use Rattle.reader.specs.Limits.{nodeLimit, operatorLimit}
+use Rattle.reader.specs.Limits.{textLimit, nodeLimit, operatorLimit, tooLong}
 use Rattle.reader.specs.Formula.{Formula, size, operators}
 use Rattle.reader.specs.Marks.{kindOf, kindIn}
 use Rattle.reader.specs.Grammar.{marks, Derives, operand, prefix, parens, lower, infixed, Reads}
@@ -49,31 +51,39 @@ module _ (i o : ℕ) (t : Bool) (text : List ℕ) where
   operators-of : (φ : Formula) → Reads i K text φ → operators φ ≡ countOf true text
   operators-of φ x = sym (count-operators (whole-alphabet i o t x)) ∙ count-marks true text
 
-  -- ---- the reading, by the pass and the counts
+  -- ---- the reading, by the length, the pass and the counts
 
-  pub bad-reading : (k : ℕ) → scanOf K text 0 true 0 ≡ Stopped k → ReadingOf i K text (Bad k)
+  pub long-reading : tooLong text ≡ true → ReadingOf i K text TooLong
   unfolding ReadingOf
-  bad-reading k e = place-of k e
+  long-reading e = ltb-true textLimit (length text) e
 
-  module _ (e : scanOf K text 0 true 0 ≡ Whole) where
-    pub many-nodes-reading : nodeLimit < countOf false text → ReadingOf i K text TooManyNodes
-    unfolding ReadingOf
-    many-nodes-reading h =
-        let x = formula-of e in
-        (x .0, x .1, omega (arith, nodes-of (x .0) (x .1)))
+  module _ (fits : tooLong text ≡ false) where
+    short : length text ≤ textLimit
+    short = ltb-false textLimit (length text) fits
 
-    pub many-operators-reading : countOf false text ≤ nodeLimit → operatorLimit < countOf true text → ReadingOf i K text TooManyOperators
+    pub bad-reading : (k : ℕ) → scanOf K text 0 true 0 ≡ Stopped k → ReadingOf i K text (Bad k)
     unfolding ReadingOf
-    many-operators-reading n h =
-        let x = formula-of e in
-        (x .0, x .1, omega (arith, nodes-of (x .0) (x .1)), omega (arith, operators-of (x .0) (x .1)))
+    bad-reading k e = (short, place-of k e)
 
-    pub good-reading : countOf false text ≤ nodeLimit → countOf true text ≤ operatorLimit → ReadingOf i K text (Good (countOf false text))
-    unfolding ReadingOf
-    good-reading n m =
-        let x = formula-of e in
-        let f = nodes-of (x .0) (x .1) in
-        (x .0, record { reads = x .1; few-nodes = omega arith; few-operators = omega (arith, operators-of (x .0) (x .1)) }, sym f)
+    module _ (e : scanOf K text 0 true 0 ≡ Whole) where
+      pub many-nodes-reading : nodeLimit < countOf false text → ReadingOf i K text TooManyNodes
+      unfolding ReadingOf
+      many-nodes-reading h =
+          let x = formula-of e in
+          (short, x .0, x .1, omega (arith, nodes-of (x .0) (x .1)))
+
+      pub many-operators-reading : countOf false text ≤ nodeLimit → operatorLimit < countOf true text → ReadingOf i K text TooManyOperators
+      unfolding ReadingOf
+      many-operators-reading n h =
+          let x = formula-of e in
+          (short, x .0, x .1, omega (arith, nodes-of (x .0) (x .1)), omega (arith, operators-of (x .0) (x .1)))
+
+      pub good-reading : countOf false text ≤ nodeLimit → countOf true text ≤ operatorLimit → ReadingOf i K text (Good (countOf false text))
+      unfolding ReadingOf
+      good-reading n m =
+          let x = formula-of e in
+          let f = nodes-of (x .0) (x .1) in
+          (x .0, record { short = short; reads = x .1; few-nodes = omega arith; few-operators = omega (arith, operators-of (x .0) (x .1)) }, sym f)
 
   pub same-reading : {r s : Reading} → r ≡ s → ReadingOf i K text r → ReadingOf i K text s
   same-reading e h = subst (ReadingOf i K text) e h

@@ -9,7 +9,7 @@ use native.Mathlib.Omega.{arith}
 use types.Run.{OneOf}
 use denote.Enum.Declared.{tagOf}
 use Rattle.reader.specs.declared.reading.Reading.{Reading}
-use Rattle.reader.specs.declared.reading.Reading.the-variants.{Good, Bad, TooManyNodes, TooManyOperators}
+use Rattle.reader.specs.declared.reading.Reading.the-variants.{Good, TooLong, Bad, TooManyNodes, TooManyOperators}
 use Rattle.reader.specs.declared.refusal.Refusal.{Refusal}
 use Rattle.reader.specs.declared.refusal.Refusal.the-variants.{Nothing, Alphabet, TextLength, Buffer, RuleText, RuleNodes, RuleOperators, ConditionText, ConditionNodes, StateCount, GivenCount, Move, State, Value}
 use Rattle.reader.specs.Refusal.{numberOf, isNothing, afterRule, afterCondition}
@@ -45,10 +45,10 @@ abbrev pub NotGood : Reading → Type 0
 NotGood ρ = (n : ℕ) → ρ ≡ Good n → ⊥
 
 -- as the other arm of a `let .. else` on a good reading tells it
-pub not-good : (ρ : Reading) → OneOf (1 ∷ 2 ∷ 3 ∷ []) (tagOf the-type ρ) → NotGood ρ
+pub not-good : (ρ : Reading) → OneOf (1 ∷ 2 ∷ 3 ∷ 4 ∷ []) (tagOf the-type ρ) → NotGood ρ
 not-good ρ h n e =
-    let g : OneOf (1 ∷ 2 ∷ 3 ∷ []) (tagOf the-type (Good n)) = subst (λ (x : Reading). OneOf (1 ∷ 2 ∷ 3 ∷ []) (tagOf the-type x)) e h in
-    ⊎-elim (λ z. omega arith) (⊎-elim (λ z. omega arith) (λ z. omega arith)) g
+    let g : OneOf (1 ∷ 2 ∷ 3 ∷ 4 ∷ []) (tagOf the-type (Good n)) = subst (λ (x : Reading). OneOf (1 ∷ 2 ∷ 3 ∷ 4 ∷ []) (tagOf the-type x)) e h in
+    ⊎-elim (λ z. omega arith) (⊎-elim (λ z. omega arith) (⊎-elim (λ z. omega arith) (λ z. omega arith))) g
 
 -- is refused by itself, whatever comes later, and never by 9
 pub record Refuses (after : Reading → Refusal → Refusal) (ρ : Reading) : Type 0 where
@@ -58,12 +58,14 @@ pub record Refuses (after : Reading → Refusal → Refusal) (ρ : Reading) : Ty
 
 pub rule-refused : (ρ : Reading) → NotGood ρ → Refuses afterRule ρ
 rule-refused (Good n) h = absurd (h n refl)
+rule-refused TooLong h = record { first = λ later. refl; is-refused = refl; not-count = differs TextLength StateCount (λ e. omega arith) }
 rule-refused (Bad k) h = record { first = λ later. refl; is-refused = refl; not-count = differs (RuleText k) StateCount (λ e. omega arith) }
 rule-refused TooManyNodes h = record { first = λ later. refl; is-refused = refl; not-count = differs RuleNodes StateCount (λ e. omega arith) }
 rule-refused TooManyOperators h = record { first = λ later. refl; is-refused = refl; not-count = differs RuleOperators StateCount (λ e. omega arith) }
 
 pub condition-refused : (ρ : Reading) → NotGood ρ → Refuses afterCondition ρ
 condition-refused (Good n) h = absurd (h n refl)
+condition-refused TooLong h = record { first = λ later. refl; is-refused = refl; not-count = differs TextLength StateCount (λ e. omega arith) }
 condition-refused (Bad k) h = record { first = λ later. refl; is-refused = refl; not-count = differs (ConditionText k) StateCount (λ e. omega arith) }
 condition-refused TooManyNodes h = record { first = λ later. refl; is-refused = refl; not-count = differs ConditionNodes StateCount (λ e. omega arith) }
 condition-refused TooManyOperators h = record { first = λ later. refl; is-refused = refl; not-count = differs ConditionNodes StateCount (λ e. omega arith) }

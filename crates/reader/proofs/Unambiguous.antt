@@ -10,15 +10,15 @@ use native.Mathlib.Decide.{decLe}
 use native.Mathlib.Omega.{arith}
 use borrow.Author.Tests.{lt-ltb, le-ltb}
 use lib.Dec.{ltb}
-use lib.ListN.{take, drop, take-append-drop}
+use lib.ListN.{length, take, drop, take-append-drop}
 use lib.Seq.{take-take}
 use Rattle.reader.specs.declared.marks.Kind.{Kind}
 use Rattle.reader.specs.declared.marks.Kind.the-variants.{Operand, Prefix, Open}
 use Rattle.reader.specs.declared.scan.Scanned.{Scanned}
 use Rattle.reader.specs.declared.scan.Scanned.the-variants.{Whole, Stopped}
 use Rattle.reader.specs.declared.reading.Reading.{Reading}
-use Rattle.reader.specs.declared.reading.Reading.the-variants.{Good, Bad, TooManyNodes, TooManyOperators}
-use Rattle.reader.specs.Limits.{nodeLimit, operatorLimit}
+use Rattle.reader.specs.declared.reading.Reading.the-variants.{Good, TooLong, Bad, TooManyNodes, TooManyOperators}
+use Rattle.reader.specs.Limits.{textLimit, nodeLimit, operatorLimit}
 use Rattle.reader.specs.Formula.{Formula, size, operators}
 use Rattle.reader.specs.Marks.{kindOf, kindIn}
 use Rattle.reader.specs.Grammar.{Derives, operand, prefix, parens, lower, infixed, Reads}
@@ -98,15 +98,20 @@ answer φ = cond (ltb nodeLimit (size φ)) TooManyNodes (cond (ltb operatorLimit
 abbrev Origin : ℕ → (ℕ → Kind) → List ℕ → Reading → Type 0
 Origin i kind text r = ((φ : Formula) × Reads i kind text φ × (r ≡ answer φ)) ⊎ ((k : ℕ) × IsPlace i kind text k × (r ≡ Bad k))
 
-origin : (i : ℕ) (kind : ℕ → Kind) (text : List ℕ) (r : Reading) → ReadingOf i kind text r → Origin i kind text r
+-- or the text is too long
+abbrev Cause : ℕ → (ℕ → Kind) → List ℕ → Reading → Type 0
+Cause i kind text r = ((textLimit < length text) × (r ≡ TooLong)) ⊎ ((length text ≤ textLimit) × Origin i kind text r)
+
+cause : (i : ℕ) (kind : ℕ → Kind) (text : List ℕ) (r : Reading) → ReadingOf i kind text r → Cause i kind text r
 unfolding ReadingOf answer
-origin i kind text (Good n) a =
+cause i kind text (Good n) a =
     let h : size (a .0) ≤ nodeLimit = a .1 .few-nodes in
     let g : operators (a .0) ≤ operatorLimit = a .1 .few-operators in
-    inl (a .0, a .1 .reads, simp (le-ltb nodeLimit (size (a .0)) h, le-ltb operatorLimit (operators (a .0)) g) (ap Good (a .2)))
-origin i kind text (Bad k) a = inr (k, a, refl)
-origin i kind text TooManyNodes a = inl (a .0, a .1, simp (lt-ltb nodeLimit (size (a .0)) (a .2)))
-origin i kind text TooManyOperators a = inl (a .0, a .1, simp (le-ltb nodeLimit (size (a .0)) (a .2), lt-ltb operatorLimit (operators (a .0)) (a .3)))
+    inr (a .1 .short, inl (a .0, a .1 .reads, simp (le-ltb nodeLimit (size (a .0)) h, le-ltb operatorLimit (operators (a .0)) g) (ap Good (a .2))))
+cause i kind text TooLong a = inl (a, refl)
+cause i kind text (Bad k) a = inr (a .0, inr (k, a .1, refl))
+cause i kind text TooManyNodes a = inr (a .0, inl (a .1, a .2, simp (lt-ltb nodeLimit (size (a .1)) (a .3))))
+cause i kind text TooManyOperators a = inr (a .0, inl (a .1, a .2, simp (le-ltb nodeLimit (size (a .1)) (a .3), lt-ltb operatorLimit (operators (a .1)) (a .4))))
 
 -- ---- the theorems
 
@@ -132,30 +137,38 @@ module _ (i o : ℕ) (t : Bool) (text : List ℕ) where
   good-formula g r = r .2 ∙ ap size (one-formula (r .1 .reads) (g .reads))
 
   -- a formula's reading, by its counts
-  reading-of : (φ : Formula) → Reads i K text φ → (r : Reading) × ReadingOf i K text r
+  reading-of : length text ≤ textLimit → (φ : Formula) → Reads i K text φ → (r : Reading) × ReadingOf i K text r
   unfolding ReadingOf
-  reading-of φ x = go (decLe (size φ) nodeLimit) (decLe (operators φ) operatorLimit)
+  reading-of s φ x = go (decLe (size φ) nodeLimit) (decLe (operators φ) operatorLimit)
     where
       go : Dec (size φ ≤ nodeLimit) → Dec (operators φ ≤ operatorLimit) → (r : Reading) × ReadingOf i K text r
-      go (yes h) (yes g) = (Good (size φ), (φ, record { reads = x; few-nodes = h; few-operators = g }, refl))
-      go (yes h) (no g) = (TooManyOperators, (φ, x, h, lt-of-not-le g))
-      go (no h) d = (TooManyNodes, (φ, x, lt-of-not-le h))
+      go (yes h) (yes g) = (Good (size φ), (φ, record { short = s; reads = x; few-nodes = h; few-operators = g }, refl))
+      go (yes h) (no g) = (TooManyOperators, (s, φ, x, h, lt-of-not-le g))
+      go (no h) d = (TooManyNodes, (s, φ, x, lt-of-not-le h))
+
+  -- a formula's or a place's reading is one
+  one-origin : {r s : Reading} → Origin i K text r → Origin i K text s → r ≡ s
+  one-origin (inl a) (inl b) = a .2 ∙ (ap answer (one-formula (a .1) (b .1)) ∙ sym (b .2))
+  one-origin (inl a) (inr b) = absurd (never-both (a .1) (b .1))
+  one-origin (inr a) (inl b) = absurd (never-both (b .1) (a .1))
+  one-origin (inr a) (inr b) = a .2 ∙ (ap Bad (one-place (a .1) (b .1)) ∙ sym (b .2))
 
   -- a text has at most one reading
   pub one-reading : {r s : Reading} → ReadingOf i K text r → ReadingOf i K text s → r ≡ s
-  one-reading {r} {s} x y = go (origin i K text r x) (origin i K text s y)
+  one-reading {r} {s} x y = go (cause i K text r x) (cause i K text s y)
     where
-      go : Origin i K text r → Origin i K text s → r ≡ s
-      go (inl a) (inl b) = a .2 ∙ (ap answer (one-formula (a .1) (b .1)) ∙ sym (b .2))
-      go (inl a) (inr b) = absurd (never-both (a .1) (b .1))
-      go (inr a) (inl b) = absurd (never-both (b .1) (a .1))
-      go (inr a) (inr b) = a .2 ∙ (ap Bad (one-place (a .1) (b .1)) ∙ sym (b .2))
+      go : Cause i K text r → Cause i K text s → r ≡ s
+      go (inl a) (inl b) = a .1 ∙ sym (b .1)
+      go (inl a) (inr b) = absurd (omega (arith, a .0, b .0))
+      go (inr a) (inl b) = absurd (omega (arith, a .0, b .0))
+      go (inr a) (inr b) = one-origin (a .1) (b .1)
 
   -- and at least one
   pub some-reading : (r : Reading) × ReadingOf i K text r
   unfolding ReadingOf
-  some-reading = go (scanOf K text 0 true 0) refl
+  some-reading = go (decLe (length text) textLimit) (scanOf K text 0 true 0) refl
     where
-      go : (x : Scanned) → scanOf K text 0 true 0 ≡ x → (r : Reading) × ReadingOf i K text r
-      go Whole e = let f = formula-of i o t text e in reading-of (f .0) (f .1)
-      go (Stopped k) e = (Bad k, place-of i o t text k e)
+      go : Dec (length text ≤ textLimit) → (x : Scanned) → scanOf K text 0 true 0 ≡ x → (r : Reading) × ReadingOf i K text r
+      go (no n) x e = (TooLong, lt-of-not-le n)
+      go (yes h) Whole e = let f = formula-of i o t text e in reading-of h (f .0) (f .1)
+      go (yes h) (Stopped k) e = (Bad k, (h, place-of i o t text k e))

@@ -8,7 +8,7 @@ use mathlib.Core.List.{List, [], _∷_, _++_}
 use lib.Seq.{sets}
 use Rattle.reader.specs.declared.marks.Kind.{Kind}
 use Rattle.reader.specs.declared.reading.Reading.{Reading}
-use Rattle.reader.specs.declared.reading.Reading.the-variants.{Good, Bad, TooManyNodes, TooManyOperators}
+use Rattle.reader.specs.declared.reading.Reading.the-variants.{Good, TooLong, Bad, TooManyNodes, TooManyOperators}
 use Rattle.reader.specs.Formula.{Unary, neg, next, weak, eventually, always, Binary, until, release, conj, disj, impl, Formula, constant, name, unary, binary, size, withUnary, withBinary, operators}
 use Rattle.reader.specs.Reading.{IsGood}
 
@@ -54,6 +54,7 @@ nodesOf φ = code 0 1 φ
 -- the buffer after reading: the nodes in front where the text is good, else as it was
 unfoldable pub Written : ℕ → (ℕ → Kind) → List ℕ → Reading → List ℕ → List ℕ → Type 0
 Written i kind text (Good n) out out′ = (φ : Formula) → IsGood i kind text φ → out′ ≡ sets out 0 (nodesOf φ)
+Written i kind text TooLong out out′ = out′ ≡ out
 Written i kind text (Bad k) out out′ = out′ ≡ out
 Written i kind text TooManyNodes out out′ = out′ ≡ out
 Written i kind text TooManyOperators out out′ = out′ ≡ out

@@ -4,7 +4,7 @@ use Prim.Native.Nat.{ℕ}
 use mathlib.Core.Bool.{Bool}
 use lib.Dec.{eqb}
 use Rattle.reader.specs.declared.reading.Reading.{Reading}
-use Rattle.reader.specs.declared.reading.Reading.the-variants.{Good, Bad, TooManyNodes, TooManyOperators}
+use Rattle.reader.specs.declared.reading.Reading.the-variants.{Good, TooLong, Bad, TooManyNodes, TooManyOperators}
 use Rattle.reader.specs.declared.refusal.Refusal.{Refusal}
 use Rattle.reader.specs.declared.refusal.Refusal.the-variants.{Nothing, Alphabet, TextLength, Buffer, RuleText, RuleNodes, RuleOperators, ConditionText, ConditionNodes, StateCount, GivenCount, Move, State, Value}
 
@@ -47,15 +47,18 @@ abbrev pub isNothing : Refusal → Bool
 isNothing x = eqb (numberOf x) 0
 
 -- what a rule's reading is refused by, and where it is good what comes after
+-- (`TooLong` never arises in a call, which tests the length before it reads)
 abbrev pub afterRule : Reading → Refusal → Refusal
 afterRule (Good n) later = later
+afterRule TooLong later = TextLength
 afterRule (Bad k) later = RuleText k
 afterRule TooManyNodes later = RuleNodes
 afterRule TooManyOperators later = RuleOperators
 
--- the same for a condition, which has no temporal operator, so that its last case never arises
+-- the same for a condition, which has no temporal operator, so that the last case never arises
 abbrev pub afterCondition : Reading → Refusal → Refusal
 afterCondition (Good n) later = later
+afterCondition TooLong later = TextLength
 afterCondition (Bad k) later = ConditionText k
 afterCondition TooManyNodes later = ConditionNodes
 afterCondition TooManyOperators later = ConditionNodes

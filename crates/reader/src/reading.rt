@@ -1,7 +1,7 @@
-// The reader's two calls.
+// The reader's two calls, and the test of a text's length.
 ghost use mathlib.Core.Path.{_≡_};
 ghost use lib.ListN.{length};
-ghost use Rattle.reader.specs.Limits.{nodeLimit};
+ghost use Rattle.reader.specs.Limits.{nodeLimit, tooLong};
 ghost use Rattle.reader.specs.Marks.{kindIn};
 ghost use Rattle.reader.specs.Nodes.{Written};
 ghost use Rattle.reader.specs.Reading.{ReadingOf};
@@ -12,18 +12,29 @@ use crate::scan::Scanned;
 use crate::scan::scan;
 use crate::size::count;
 
-// What the reader answers on a text: good, with the number of its nodes; bad, with the place; or over a limit.
+// What the reader answers on a text: good, with the number of its nodes; too long, whatever it is; bad, with the place; or over another limit.
 pub enum Reading {
     Good(usize),
+    TooLong,
     Bad(usize),
     TooManyNodes,
     TooManyOperators,
+}
+
+// Whether a text is over 255 bytes.
+pub fn too_long(text: &[u8]) -> bool
+    ensures { λ r. ⌜ r ≡ tooLong (now (text .entry)) ⌝ }
+{
+    255 < text.len()
 }
 
 // Reads a text with i inputs and o outputs, and writes no nodes; temporal marks may stand in it where `temporal` says so.
 pub fn check(text: &[u8], i: u8, o: u8, temporal: bool) -> Reading
     ensures { λ r. ⌜ ReadingOf i (kindIn i o temporal) (now (text .entry)) r ⌝ }
 {
+    if too_long(text) {
+        return Reading::TooLong;
+    }
     let found = scan(text, i, o, temporal);
     match found {
         Scanned::Stopped(k) => Reading::Bad(k),
@@ -57,6 +68,7 @@ fn read_into(text: &[u8], i: u8, o: u8, temporal: bool, out: &mut [usize]) -> Re
             read_implies(text, i, start, out);
             Reading::Good(n)
         }
+        Reading::TooLong => Reading::TooLong,
         Reading::Bad(k) => Reading::Bad(k),
         Reading::TooManyNodes => Reading::TooManyNodes,
         Reading::TooManyOperators => Reading::TooManyOperators,

@@ -28,6 +28,7 @@ pub fn rule_refusal(reading: Reading) -> Refusal
 {
     match reading {
         Reading::Good(_) => Refusal::Nothing,
+        Reading::TooLong => Refusal::TextLength,
         Reading::Bad(place) => Refusal::RuleText(place),
         Reading::TooManyNodes => Refusal::RuleNodes,
         Reading::TooManyOperators => Refusal::RuleOperators,
@@ -40,6 +41,7 @@ pub fn condition_refusal(reading: Reading) -> Refusal
 {
     match reading {
         Reading::Good(_) => Refusal::Nothing,
+        Reading::TooLong => Refusal::TextLength,
         Reading::Bad(place) => Refusal::ConditionText(place),
         Reading::TooManyNodes => Refusal::ConditionNodes,
         Reading::TooManyOperators => Refusal::ConditionNodes,

@@ -6,17 +6,17 @@ use mathlib.Core.Bool.{Bool, true, false, not, _&&_, _||_}
 use mathlib.Core.List.{List, [], _∷_}
 use native.Mathlib.Omega.{arith}
 use lib.Dec.{eqb, leb}
-use lib.ListN.{getD}
+use lib.ListN.{length, getD}
 use lib.Pow.{pow-pos}
-use borrow.Author.Tests.{eqb-true, leb-true}
-use Rattle.reader.specs.Limits.{nodeLimit, operatorLimit}
+use borrow.Author.Tests.{eqb-true, leb-true, ltb-false}
+use Rattle.reader.specs.Limits.{textLimit, nodeLimit, operatorLimit, tooLong}
 use Rattle.reader.specs.Formula.{Formula, size, operators}
 use Rattle.reader.specs.Marks.{ruleKind, conditionKind}
 use Rattle.reader.specs.Grammar.{Reads}
-use Rattle.reader.proofs.BoolLaws.{on, clash, and-true, not-true→}
+use Rattle.reader.proofs.BoolLaws.{on, clash, or-left, or-right, and-true, not-true→}
 use Rattle.reader.proofs.StaticLaws.{static}
 use Rattle.automaton.specs.Limits.{stateLimit}
-use Rattle.automaton.specs.Alphabet.{badAlphabet, tooLong}
+use Rattle.automaton.specs.Alphabet.{badAlphabet}
 use Rattle.automaton.specs.Bits.{bit}
 use Rattle.automaton.specs.Automaton.{Automaton}
 use Rattle.automaton.specs.Condition.{maskOf, Judges}
@@ -75,6 +75,12 @@ module _ (r : Row) (c : Certificate) (e : passes r c ≡ true) where
       let v = and-true x y (u .1) in
       (not-true→ long (u .0), v .0, v .1)
 
+  fits : (length (r .rule) ≤ textLimit) × (length (r .condition) ≤ textLimit)
+  fits = (
+    ltb-false textLimit (length (r .rule)) (or-left (tooLong (r .rule)) (tooLong (r .condition)) (texts .0)),
+    ltb-false textLimit (length (r .condition)) (or-right (tooLong (r .rule)) (tooLong (r .condition)) (texts .0)),
+  )
+
   sizes : (size φ ≤ nodeLimit) × (operators φ ≤ operatorLimit) × (size κ ≤ nodeLimit)
   unfolding sizesPass
   sizes =
@@ -126,9 +132,9 @@ module _ (r : Row) (c : Certificate) (e : passes r c ≡ true) where
       record {
         small = alphabet;
         formula = φ;
-        good = record { reads = rule-read; few-nodes = sizes .0; few-operators = sizes .1 };
+        good = record { short = fits .0; reads = rule-read; few-nodes = sizes .0; few-operators = sizes .1 };
         assumption = κ;
-        assumed = record { reads = condition-read; few-nodes = sizes .2; few-operators = omega (arith, static 0 condition-read) };
+        assumed = record { short = fits .1; reads = condition-read; few-nodes = sizes .2; few-operators = omega (arith, static 0 condition-read) };
         judges = judged-so;
         short = texts .0;
         counted = count .0;

@@ -8,9 +8,10 @@ use Prim.Native.Nat.{ℕ, _^_, _≤_}
 use native.Mathlib.Omega.{arith}
 use lib.Pow.{pow-mono}
 use denote.Ref.{now}
+use Rattle.reader.specs.Limits.{tooLong}
 use Rattle.reader.proofs.RefusalLaws.{not-good}
 use Rattle.reader.proofs.StaticLaws.{static}
-use Rattle.automaton.specs.Alphabet.{badAlphabet, tooLong}
+use Rattle.automaton.specs.Alphabet.{badAlphabet}
 use Rattle.automaton.specs.Bits.{word}
 use Rattle.automaton.specs.Valuation.{value}
 use Rattle.automaton.specs.Condition.{maskOf}

@@ -8,9 +8,10 @@ use Prim.Native.Nat.{ℕ, suc, _+_, _*_, _≤_}
 use native.Mathlib.Omega.{arith}
 use lib.ListN.{length}
 use denote.Ref.{now}
+use Rattle.reader.specs.Limits.{tooLong}
 use Rattle.reader.proofs.RefusalLaws.{not-good}
 use Rattle.automaton.specs.Limits.{stateLimit}
-use Rattle.automaton.specs.Alphabet.{badAlphabet, tooLong, letterCount}
+use Rattle.automaton.specs.Alphabet.{badAlphabet, letterCount}
 use Rattle.automaton.specs.Construction.{shortAutomaton}
 use Rattle.automaton.specs.Exploration.{BuiltAutomaton, WithinLimit, BeyondLimit}
 use Rattle.automaton.proofs.AlphabetLaws.{inputs-fit, outputs-fit, LettersFit, letters-fit}

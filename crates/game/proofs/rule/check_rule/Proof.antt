@@ -4,7 +4,8 @@ use borrow.Author.Needs.{needs}
 use mathlib.Core.Path.{_≡_, sym, _∙_}
 use mathlib.Core.Bool.{false}
 use denote.Ref.{now}
-use Rattle.automaton.specs.Alphabet.{badAlphabet, tooLong}
+use Rattle.reader.specs.Limits.{tooLong}
+use Rattle.automaton.specs.Alphabet.{badAlphabet}
 use Rattle.game.specs.Rule.{Buffers, buffers}
 use Rattle.game.proofs.RuleCheckLaws.{by-alphabet, by-rule-length, by-condition-length, by-buffer}
 use Rattle.game.proofs.rule.check_rule.Statement.{statement}

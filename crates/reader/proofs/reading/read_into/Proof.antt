@@ -24,14 +24,17 @@ read-implies-requires c κs =
     (same-reading (a .i) (a .o) (a .temporal) (a .text .now) (c .before .before .before .found .given .1) (at .check .ensures))
     (start .pre)
 
-enum-known-found-2 : tie.Need-enum-known-found-2
-enum-known-found-2 c = search needs
-
 enum-told : tie.Need-enum-told
 enum-told c = search needs
 
+enum-known-found-2 : tie.Need-enum-known-found-2
+enum-known-found-2 c = search needs
+
 enum-told-2 : tie.Need-enum-told-2
 enum-told-2 c = search needs
+
+enum-told-3 : tie.Need-enum-told-3
+enum-told-3 c = search needs
 
 same-length : tie.Need-same-length
 same-length c = search needs
@@ -47,16 +50,16 @@ returns c =
 returns-2 : tie.Need-returns-2
 unfolding Written
 returns-2 c =
-    let at = c .before .before .before in
+    let at = c .before .before in
     let a = at .before .before .before .args in
-    (same-reading (a .i) (a .o) (a .temporal) (a .text .now) (c .before .found2 .given .1) (at .check .ensures), refl)
+    (same-reading (a .i) (a .o) (a .temporal) (a .text .now) (c .enum-told .given .1) (at .check .ensures), refl)
 
 returns-3 : tie.Need-returns-3
 unfolding Written
 returns-3 c =
-    let at = c .before .before in
+    let at = c .before .before .before in
     let a = at .before .before .before .args in
-    (same-reading (a .i) (a .o) (a .temporal) (a .text .now) (c .enum-told .given .1) (at .check .ensures), refl)
+    (same-reading (a .i) (a .o) (a .temporal) (a .text .now) (c .before .found2 .given .1) (at .check .ensures), refl)
 
 returns-4 : tie.Need-returns-4
 unfolding Written
@@ -64,6 +67,13 @@ returns-4 c =
     let at = c .before .before in
     let a = at .before .before .before .args in
     (same-reading (a .i) (a .o) (a .temporal) (a .text .now) (c .enum-told2 .given .1) (at .check .ensures), refl)
+
+returns-5 : tie.Need-returns-5
+unfolding Written
+returns-5 c =
+    let at = c .before .before in
+    let a = at .before .before .before .args in
+    (same-reading (a .i) (a .o) (a .temporal) (a .text .now) (c .enum-told3 .given .1) (at .check .ensures), refl)
 
 pub read-into-spec : {M : Type 1} → statement M
 read-into-spec =
@@ -73,11 +83,13 @@ read-into-spec =
     enum-known-found
     skip-requires
     read-implies-requires
-    enum-known-found-2
     enum-told
+    enum-known-found-2
     enum-told-2
+    enum-told-3
     same-length
     returns
     returns-2
     returns-3
-    returns-4)
+    returns-4
+    returns-5)

@@ -1,4 +1,5 @@
--- No state is won by both players, whatever their strategies: so a verdict and the winner of a state are determined by the arena and the mode.
+-- No state is won by both players, by any two tables (positional strategies, as lists of bytes): so a verdict and the winner of a state, where one of them has
+-- a table that wins from it, are determined by the arena and the mode.
 -- A play that follows both strategies for n times n steps falls into n stretches of n steps. If the environment keeps its assumption, the system's
 -- is met on it, so that it reaches a goal, which the environment avoids.
 -- Assumes nothing.

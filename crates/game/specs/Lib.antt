@@ -10,4 +10,5 @@ pub mod Checks
 pub mod Given
 pub mod Follower
 pub mod Rule
+pub mod Agreement
 pub mod RuleChecks

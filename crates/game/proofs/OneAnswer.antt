@@ -19,6 +19,7 @@ use Rattle.reader.specs.declared.refusal.Refusal.the-variants.{Nothing, Alphabe
 use Rattle.reader.specs.Formula.{Formula}
 use Rattle.reader.specs.Marks.{ruleKind, conditionKind}
 use Rattle.reader.specs.Reading.{ReadingOf, IsGood}
+use Rattle.reader.specs.Refusal.{numberOf}
 use Rattle.reader.proofs.BoolLaws.{on}
 use Rattle.reader.proofs.RefusalLaws.{something, refused-or-served}
 use Rattle.reader.proofs.Unambiguous.{one-formula, one-reading}
@@ -32,7 +33,7 @@ use Rattle.game.specs.declared.answer.Answer.{Answer}
 use Rattle.game.specs.declared.answer.Answer.the-variants.{Refused}
 use Rattle.game.specs.declared.follow.Position.{Position}
 use Rattle.game.specs.declared.follow.Followed.{Followed}
-use Rattle.game.specs.Answer.{verdictOf}
+use Rattle.game.specs.Answer.{answerNumber, answerStates, verdictOf}
 use Rattle.game.specs.Arena.{Arena, arena}
 use Rattle.game.specs.Strategy.{systemByte, environmentByte}
 use Rattle.game.specs.Tables.{noMove, SystemState, EnvironmentState, Tables, Verdict}
@@ -40,6 +41,7 @@ use Rattle.game.specs.Given.{givenRefusal, GivenSolved}
 use Rattle.game.specs.Rule.{Buffers, ruleRefusal, Served, RuleSolved}
 use Rattle.game.specs.Follower.{FollowedBy}
 use Rattle.game.specs.Agreement.{isNoMove, Free, TableAgrees, TablesAgree, TablesAfter, GivenAgree, RuleAgree}
+use Rattle.game.proofs.AnswerLaws.{verdict-states}
 use Rattle.game.proofs.GivenLaws.{passed}
 use Rattle.game.proofs.Determined.{one-winner}
 
@@ -117,10 +119,20 @@ module _ (fair : Bool) (G : Arena) (few-inputs : G .inputs ≤ noMove) (few-outp
         environment = table-agrees (Free (G .states) τ false) τ τ′ (x .environment-size ∙ sym (y .environment-size)) environment-byte;
       }
 
--- tables agree after a verdict if they agree on its states
-after-verdict : (can : Bool) (n inputs : ℕ) (σ τ σ′ τ′ : List ℕ) → TablesAgree n inputs σ τ σ′ τ′ → TablesAfter (verdictOf can n) inputs σ τ σ′ τ′
-after-verdict true n inputs σ τ σ′ τ′ h = h
-after-verdict false n inputs σ τ σ′ τ′ h = h
+-- what a table is in one run, it is in both if they are the same
+tables-same : (n inputs : ℕ) (σ τ σ′ τ′ : List ℕ) → σ ≡ σ′ → τ ≡ τ′ → TablesAgree n inputs σ τ σ′ τ′
+tables-same n inputs σ τ σ′ τ′ e f =
+    record {
+      system = subst (λ (t : List ℕ). TableAgrees (λ k. Free n τ true (k / inputs)) σ t) e (record { size = refl; rows = λ k. refl; bytes = λ k z. refl });
+      environment = subst (λ (t : List ℕ). TableAgrees (Free n τ false) τ t) f (record { size = refl; rows = λ k. refl; bytes = λ k z. refl });
+    }
+
+-- after a verdict, and after a refusal
+after-verdict : (number n inputs : ℕ) (σ τ σ′ τ′ : List ℕ) → number ≡ 0 → TablesAgree n inputs σ τ σ′ τ′ → TablesAfter number n inputs σ τ σ′ τ′
+after-verdict number n inputs σ τ σ′ τ′ e h = record { served = λ z. h; refused = λ z. absurd (z e) }
+
+after-refusal : (number n inputs : ℕ) (σ τ σ′ τ′ : List ℕ) → σ ≡ σ′ → τ ≡ τ′ → TablesAfter number n inputs σ τ σ′ τ′
+after-refusal number n inputs σ τ σ′ τ′ e f = record { served = λ z. tables-same n inputs σ τ σ′ τ′ e f; refused = λ z. (e, f) }
 
 -- ---- the follower
 
@@ -132,7 +144,7 @@ one-step u v = u .answer ∙ sym (v .answer)
 
 module _ {fair : Bool} (i o : ℕ) {start n : ℕ} {transitions accepting : List ℕ} {mask : ℕ} {σ₀ τ₀ σ τ σ′ τ′ : List ℕ} {r r′ : Answer}
     (x : GivenSolved fair i o start (arena i o n transitions accepting mask) σ₀ τ₀ σ τ r) (y : GivenSolved fair i o start (arena i o n transitions accepting mask) σ₀ τ₀ σ′ τ′ r′) where
-  given-served : givenRefusal i o start (arena i o n transitions accepting mask) σ₀ τ₀ ≡ Nothing → GivenAgree (2 ^ i) σ τ σ′ τ′ r r′
+  given-served : givenRefusal i o start (arena i o n transitions accepting mask) σ₀ τ₀ ≡ Nothing → GivenAgree n (2 ^ i) σ τ σ′ τ′ r r′
   unfolding givenRefusal
   given-served z =
       let G = arena i o n transitions accepting mask in
@@ -143,21 +155,20 @@ module _ {fair : Bool} (i o : ℕ) {start n : ℕ} {transitions accepting : List
       let few′ : 2 ^ o ≤ 16 = pow-mono {j = 4} (outputs-fit i o a) in
       record {
         answer = u .1 ∙ ap (λ (c : Bool). verdictOf c n) (one-verdict fair G σ τ σ′ τ′ start (u .0) (v .0) (u .3) (v .3)) ∙ sym (v .1);
-        tables = subst (λ (b : Answer). TablesAfter b (2 ^ i) σ τ σ′ τ′) (sym (u .1))
-            (after-verdict (u .0) n (2 ^ i) σ τ σ′ τ′ (tables-agree fair G (omega arith) (omega arith) (pow-pos i) σ₀ τ₀ σ τ σ′ τ′ (u .2) (v .2)));
+        tables = after-verdict _ n (2 ^ i) σ τ σ′ τ′ (x .number ∙ ap numberOf z) (tables-agree fair G (omega arith) (omega arith) (pow-pos i) σ₀ τ₀ σ τ σ′ τ′ (u .2) (v .2));
       }
 
-  given-refused : (givenRefusal i o start (arena i o n transitions accepting mask) σ₀ τ₀ ≡ Nothing → ⊥) → GivenAgree (2 ^ i) σ τ σ′ τ′ r r′
+  given-refused : (givenRefusal i o start (arena i o n transitions accepting mask) σ₀ τ₀ ≡ Nothing → ⊥) → GivenAgree n (2 ^ i) σ τ σ′ τ′ r r′
   given-refused z =
       let u = x .refused z in
       let v = y .refused z in
       record {
         answer = u .0 ∙ sym (v .0);
-        tables = subst (λ (b : Answer). TablesAfter b (2 ^ i) σ τ σ′ τ′) (sym (u .0)) (u .1 ∙ sym (v .1), u .2 ∙ sym (v .2));
+        tables = after-refusal _ n (2 ^ i) σ τ σ′ τ′ (u .1 ∙ sym (v .1)) (u .2 ∙ sym (v .2));
       }
 
   -- two runs of the call for a given automaton agree
-  pub one-given : GivenAgree (2 ^ i) σ τ σ′ τ′ r r′
+  pub one-given : GivenAgree n (2 ^ i) σ τ σ′ τ′ r r′
   one-given = ⊎-elim given-served (λ z. given-refused (something _ z)) (refused-or-served (givenRefusal i o start (arena i o n transitions accepting mask) σ₀ τ₀))
 
 -- ---- the rule call
@@ -211,7 +222,7 @@ module _ {fair : Bool} {i o : ℕ} {rule condition : List ℕ} {old new new′ :
       let g : arena i o m (new′ .transitions) (new′ .accepting) (maskOf χ i) ≡ of n κ = rw (e, f, same-automaton .0, same-automaton .1) refl in
       subst (Played new′ can) g p
 
-  rule-served : x .refusal ≡ Nothing → (r ≡ r′) × TablesAfter r (2 ^ i) (new .system) (new .environment) (new′ .system) (new′ .environment)
+  rule-served : x .refusal ≡ Nothing → (r ≡ r′) × TablesAfter (answerNumber r) (answerStates r) (2 ^ i) (new .system) (new .environment) (new′ .system) (new′ .environment)
   unfolding ruleRefusal
   rule-served z =
       let u = x .served z in
@@ -226,16 +237,17 @@ module _ {fair : Bool} {i o : ℕ} {rule condition : List ℕ} {old new new′ :
       let few′ : 2 ^ o ≤ 16 = pow-mono {j = 4} (outputs-fit i o a) in
       let G = of (x .states) (s .assumption) in (
         u .1 ∙ ap₂ verdictOf (one-verdict fair G _ _ _ _ 0 (u .0) (v .0) (s .verdict) (w .1)) (sym m) ∙ sym (v .1),
-        subst (λ (b : Answer). TablesAfter b (2 ^ i) (new .system) (new .environment) (new′ .system) (new′ .environment)) (sym (u .1))
-            (after-verdict (u .0) (x .states) (2 ^ i) _ _ _ _ (tables-agree fair G (omega arith) (omega arith) (pow-pos i) _ _ _ _ _ _ (s .tables) (w .0))),
+        after-verdict _ _ (2 ^ i) _ _ _ _ (x .number ∙ ap numberOf z)
+            (subst (λ (n : ℕ). TablesAgree n (2 ^ i) (new .system) (new .environment) (new′ .system) (new′ .environment)) (sym (ap answerStates (u .1) ∙ verdict-states (u .0) (x .states)))
+            (tables-agree fair G (omega arith) (omega arith) (pow-pos i) _ _ _ _ _ _ (s .tables) (w .0))),
       )
 
-  rule-refused : (x .refusal ≡ Nothing → ⊥) → (r ≡ r′) × TablesAfter r (2 ^ i) (new .system) (new .environment) (new′ .system) (new′ .environment)
+  rule-refused : (x .refusal ≡ Nothing → ⊥) → (r ≡ r′) × TablesAfter (answerNumber r) (answerStates r) (2 ^ i) (new .system) (new .environment) (new′ .system) (new′ .environment)
   rule-refused z =
       let u = x .refused z in
       let v = y .refused (λ e. z (same-refusal ∙ e)) in (
         u .0 ∙ ap Refused same-refusal ∙ sym (v .0),
-        subst (λ (b : Answer). TablesAfter b (2 ^ i) (new .system) (new .environment) (new′ .system) (new′ .environment)) (sym (u .0)) (u .1 ∙ sym (v .1), u .2 ∙ sym (v .2)),
+        after-refusal _ _ (2 ^ i) _ _ _ _ (u .1 ∙ sym (v .1)) (u .2 ∙ sym (v .2)),
       )
 
   -- two runs of the rule call agree

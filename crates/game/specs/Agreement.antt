@@ -10,7 +10,7 @@ use mathlib.Core.List.{List}
 use lib.Dec.{eqb}
 use lib.ListN.{length, getD}
 use Rattle.game.specs.declared.answer.Answer.{Answer}
-use Rattle.game.specs.declared.answer.Answer.the-variants.{Can, Cannot, Refused}
+use Rattle.game.specs.Answer.{answerNumber, answerStates}
 use Rattle.game.specs.Tables.{noMove}
 use Rattle.game.specs.Rule.{Buffers}
 
@@ -34,20 +34,19 @@ pub record TablesAgree (n inputs : ℕ) (σ τ σ′ τ′ : List ℕ) : Type 0 
   pub system : TableAgrees (λ k. Free n τ true (k / inputs)) σ σ′
   pub environment : TableAgrees (Free n τ false) τ τ′
 
--- after a verdict the tables agree; after a refusal they are the same
-abbrev pub TablesAfter : Answer → ℕ → List ℕ → List ℕ → List ℕ → List ℕ → Type 0
-TablesAfter (Can n) inputs σ τ σ′ τ′ = TablesAgree n inputs σ τ σ′ τ′
-TablesAfter (Cannot n) inputs σ τ σ′ τ′ = TablesAgree n inputs σ τ σ′ τ′
-TablesAfter (Refused x) inputs σ τ σ′ τ′ = (σ ≡ σ′) × (τ ≡ τ′)
+-- both tables after runs with this number of 01's: served on n states, they agree; refused, they are the same
+pub record TablesAfter (number n inputs : ℕ) (σ τ σ′ τ′ : List ℕ) : Type 0 where
+  pub served : number ≡ 0 → TablesAgree n inputs σ τ σ′ τ′
+  pub refused : (number ≡ 0 → ⊥) → (σ ≡ σ′) × (τ ≡ τ′)
 
--- two runs of the call for a given automaton
-pub record GivenAgree (inputs : ℕ) (σ τ σ′ τ′ : List ℕ) (r r′ : Answer) : Type 0 where
+-- two runs of the call for a given automaton with n states
+pub record GivenAgree (n inputs : ℕ) (σ τ σ′ τ′ : List ℕ) (r r′ : Answer) : Type 0 where
   pub answer : r ≡ r′
-  pub tables : TablesAfter r inputs σ τ σ′ τ′
+  pub tables : TablesAfter (answerNumber r) n inputs σ τ σ′ τ′
 
 -- two runs of the rule call: the automaton's two buffers are the same, served or refused
 pub record RuleAgree (inputs : ℕ) (new new′ : Buffers) (r r′ : Answer) : Type 0 where
   pub answer : r ≡ r′
   pub transitions : new .transitions ≡ new′ .transitions
   pub accepting : new .accepting ≡ new′ .accepting
-  pub tables : TablesAfter r inputs (new .system) (new .environment) (new′ .system) (new′ .environment)
+  pub tables : TablesAfter (answerNumber r) (answerStates r) inputs (new .system) (new .environment) (new′ .system) (new′ .environment)

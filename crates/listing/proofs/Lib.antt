@@ -8,3 +8,4 @@ pub mod PromiseLaws
 pub mod LengthLaws
 pub mod BoundLaws
 pub mod ExampleLaws
+pub mod OneAnswer

@@ -10,7 +10,6 @@ use lib.Pow.{pow-pos}
 use Rattle.reader.specs.declared.reading.Reading.{Reading}
 use Rattle.reader.specs.declared.reading.Reading.the-variants.{Good, Bad, TooManyNodes, TooManyOperators}
 use Rattle.reader.specs.declared.refusal.Refusal.{Refusal}
-use Rattle.reader.specs.declared.refusal.Refusal.the-variants.{Nothing}
 use Rattle.reader.specs.Formula.{Formula}
 use Rattle.reader.specs.Marks.{ruleKind}
 use Rattle.reader.specs.Reading.{ReadingOf}
@@ -122,6 +121,6 @@ module _ {i o : ℕ} {text t a t₁ a₁ t₂ a₂ : List ℕ} {r r′ : Constru
       one-refused i o text (x .refusal) (y .refusal) same-construction-refusal t a t₁ a₁ t₂ a₂ (x .over, x .untouched e) (y .over, y .untouched (λ z. e (same-construction-refusal ∙ z))))
       (refused-or-served (x .refusal))
 
-  -- two runs of the construction call agree in the answer and in both buffers
-  pub one-construction : (r ≡ r′) × (t₁ ≡ t₂) × (a₁ ≡ a₂)
-  one-construction = (same-construction, same-buffers .0, same-buffers .1)
+-- two runs of the construction call agree in the answer and in both buffers
+pub one-construction : {i o : ℕ} {text t a t₁ a₁ t₂ a₂ : List ℕ} {r r′ : Construction} → Constructed i o text t a t₁ a₁ r → Constructed i o text t a t₂ a₂ r′ → (r ≡ r′) × (t₁ ≡ t₂) × (a₁ ≡ a₂)
+one-construction x y = let b = same-buffers x y in (same-construction x y, b .0, b .1)

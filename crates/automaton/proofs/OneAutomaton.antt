@@ -1,15 +1,14 @@
 -- The promise on the buffers has one answer: a formula, its letters and the old contents determine the transitions and the flags, every byte of them;
 -- so do a refusal and the old contents.
 -- Assumes nothing.
-use Prim.Native.Nat.{ℕ, _+_, _*_, _/_, _%_, _≤_, _<_}
-use mathlib.Core.Path.{_≡_, refl, sym, ap, _∙_, subst, subst₂}
-use mathlib.Core.Bool.{Bool, true, false}
+use Prim.Native.Nat.{ℕ, _+_, _*_, _/_, _%_, _<_}
+use mathlib.Core.Path.{_≡_, refl, sym, _∙_, subst, subst₂}
 use mathlib.Core.List.{List}
 use mathlib.Core.Logic.{_⊎_, ⊎-elim}
 use native.Mathlib.Nat.{mod-lt, div-add-mod'}
 use native.Mathlib.Omega.{arith}
 use lib.Dec.{ltb}
-use lib.ListN.{length, getD}
+use lib.ListN.{getD}
 use lib.Seq.{ext-getD}
 use borrow.Author.Tests.{ltb-true, ltb-false}
 use Rattle.reader.specs.declared.refusal.Refusal.{Refusal}
@@ -18,7 +17,6 @@ use Rattle.reader.specs.Formula.{Formula}
 use Rattle.reader.proofs.BoolLaws.{on}
 use Rattle.reader.proofs.RefusalLaws.{differs}
 use Rattle.automaton.specs.Limits.{stateLimit}
-use Rattle.automaton.specs.Discovery.{states}
 use Rattle.automaton.specs.Automaton.{Automaton, Cleared}
 use Rattle.automaton.specs.Construction.{Over}
 use Rattle.automaton.proofs.DiscoveryLaws.{quotient-lt}

@@ -5,10 +5,8 @@ use Prim.Native.Nat.{ℕ, _^_}
 use mathlib.Core.Path.{_≡_, sym, ap, _∙_, subst, subst₂}
 use mathlib.Core.Bool.{Bool}
 use mathlib.Core.List.{List}
-use Rattle.automaton.specs.declared.trial.Trial.{Trial}
 use Rattle.automaton.specs.Trial.{trialNumber, trialPlace}
 use Rattle.automaton.proofs.OneAnswer.{one-trial}
-use Rattle.game.specs.declared.answer.Answer.{Answer}
 use Rattle.game.specs.declared.follow.Followed.{Followed}
 use Rattle.game.specs.Answer.{answerNumber, answerPlace, answerStates}
 use Rattle.game.specs.Arena.{arena}

@@ -3,9 +3,9 @@
 -- Assumes nothing.
 use Prim.Native.Nat.{ℕ, _+_, _*_, _/_, _%_, _^_, _<_, _≤_}
 use mathlib.Core.Path.{_≡_, refl, sym, ap, ap₂, _∙_, subst}
-use mathlib.Core.Bool.{Bool, true, false, cond}
+use mathlib.Core.Bool.{Bool, true, false}
 use mathlib.Core.List.{List}
-use mathlib.Core.Logic.{_⊎_, ⊎-elim}
+use mathlib.Core.Logic.{_↔_, _⊎_, ⊎-elim}
 use native.Mathlib.Nat.{mod-lt, div-add-mod', mul-le-mul-right}
 use native.Mathlib.Omega.{arith}
 use lib.Dec.{eqb, ltb}
@@ -14,13 +14,12 @@ use lib.Pow.{pow-pos, pow-mono}
 use borrow.Author.Tests.{eq-eqb, ne-eqb, ltb-true, ltb-false}
 use Rattle.reader.specs.declared.reading.Reading.{Reading}
 use Rattle.reader.specs.declared.reading.Reading.the-variants.{Good, Bad, TooManyNodes, TooManyOperators}
-use Rattle.reader.specs.declared.refusal.Refusal.{Refusal}
 use Rattle.reader.specs.declared.refusal.Refusal.the-variants.{Nothing, Alphabet}
 use Rattle.reader.specs.Formula.{Formula}
-use Rattle.reader.specs.Marks.{ruleKind, conditionKind}
-use Rattle.reader.specs.Reading.{ReadingOf, IsGood}
+use Rattle.reader.specs.Marks.{ruleKind}
+use Rattle.reader.specs.Reading.{ReadingOf}
 use Rattle.reader.specs.Refusal.{numberOf}
-use Rattle.reader.proofs.BoolLaws.{on}
+use Rattle.reader.proofs.BoolLaws.{on, clash}
 use Rattle.reader.proofs.RefusalLaws.{something, refused-or-served}
 use Rattle.reader.proofs.Unambiguous.{one-formula, one-reading}
 use Rattle.automaton.specs.Limits.{stateLimit}
@@ -35,10 +34,10 @@ use Rattle.game.specs.declared.follow.Position.{Position}
 use Rattle.game.specs.declared.follow.Followed.{Followed}
 use Rattle.game.specs.Answer.{answerNumber, answerStates, verdictOf}
 use Rattle.game.specs.Arena.{Arena, arena}
-use Rattle.game.specs.Strategy.{systemByte, environmentByte}
+use Rattle.game.specs.Strategy.{environmentByte, SystemWins, EnvironmentWins}
 use Rattle.game.specs.Tables.{noMove, SystemState, EnvironmentState, Tables, Verdict}
 use Rattle.game.specs.Given.{givenRefusal, GivenSolved}
-use Rattle.game.specs.Rule.{Buffers, ruleRefusal, Served, RuleSolved}
+use Rattle.game.specs.Rule.{Buffers, ruleRefusal, RuleSolved}
 use Rattle.game.specs.Follower.{FollowedBy}
 use Rattle.game.specs.Agreement.{isNoMove, Free, TableAgrees, TablesAgree, TablesAfter, GivenAgree, RuleAgree}
 use Rattle.game.proofs.AnswerLaws.{verdict-states}
@@ -58,19 +57,30 @@ one-verdict fair G σ τ σ′ τ′ s false false v w = refl
 abbrev FreeOrSame : (ℕ → Type 0) → List ℕ → List ℕ → ℕ → Type 0
 FreeOrSame free t t′ k = (free k × (getD t k 0 < noMove) × (getD t′ k 0 < noMove)) ⊎ (getD t k 0 ≡ getD t′ k 0)
 
+has-move : (t : List ℕ) (k : ℕ) → getD t k 0 < noMove → isNoMove t k ≡ false
+has-move t k b = ne-eqb (getD t k 0) noMove (λ e. let z : ⊥ = omega arith in z)
+
 table-agrees : (free : ℕ → Type 0) (t t′ : List ℕ) → length t ≡ length t′ → ((k : ℕ) → FreeOrSame free t t′ k) → TableAgrees free t t′
 table-agrees free t t′ l h =
     record {
       size = l;
-      rows = λ k. ⊎-elim (λ f. moves k (f .1) ∙ sym (moves′ k (f .2))) (λ e. ap (λ (b : ℕ). eqb b noMove) e) (h k);
+      rows = λ k. ⊎-elim (λ f. has-move t k (f .1) ∙ sym (has-move t′ k (f .2))) (λ e. ap (λ (b : ℕ). eqb b noMove) e) (h k);
       bytes = λ k n. ⊎-elim (λ f. absurd (n (f .0))) (λ e. e) (h k);
     }
-  where
-    moves : (k : ℕ) → getD t k 0 < noMove → isNoMove t k ≡ false
-    moves k b = ne-eqb (getD t k 0) noMove (λ e. let z : ⊥ = omega arith in z)
 
-    moves′ : (k : ℕ) → getD t′ k 0 < noMove → isNoMove t′ k ≡ false
-    moves′ k b = ne-eqb (getD t′ k 0) noMove (λ e. let z : ⊥ = omega arith in z)
+-- the free bytes are the winner's: of the tables that are handed out, the environment's has 255 exactly where the system wins
+module _ (fair : Bool) (G : Arena) (few-inputs : G .inputs ≤ noMove) (σ₀ τ₀ σ τ : List ℕ) (x : Tables fair G σ₀ τ₀ σ τ) (s : ℕ) where
+  pub system-free : Free (G .states) τ true s ↔ ((s < G .states) × SystemWins fair G σ s)
+  system-free = (
+    λ f. (f .0, ⊎-elim (λ w. w .wins) (λ w. let b = w .byte in clash (isNoMove τ s) (f .1) (has-move τ s (omega arith))) (x .won s (f .0))),
+    λ f. (f .0, ⊎-elim (λ w. eq-eqb (environmentByte τ s) noMove (w .other)) (λ w. absurd (one-winner fair G σ τ s (f .1) (w .wins))) (x .won s (f .0))),
+  )
+
+  pub environment-free : Free (G .states) τ false s ↔ ((s < G .states) × EnvironmentWins fair G τ s)
+  environment-free = (
+    λ f. (f .0, ⊎-elim (λ w. clash (isNoMove τ s) (eq-eqb (environmentByte τ s) noMove (w .other)) (f .1)) (λ w. w .wins) (x .won s (f .0))),
+    λ f. (f .0, ⊎-elim (λ w. absurd (one-winner fair G σ τ s (w .wins) (f .1))) (λ w. let b = w .byte in has-move τ s (omega arith)) (x .won s (f .0))),
+  )
 
 module _ (fair : Bool) (G : Arena) (few-inputs : G .inputs ≤ noMove) (few-outputs : G .outputs ≤ noMove) (some : 0 < G .inputs) (σ₀ τ₀ σ τ σ′ τ′ : List ℕ)
     (x : Tables fair G σ₀ τ₀ σ τ) (y : Tables fair G σ₀ τ₀ σ′ τ′) where
@@ -104,7 +114,7 @@ module _ (fair : Bool) (G : Arena) (few-inputs : G .inputs ≤ noMove) (few-outp
       let l = ltb-true s (G .states) e in
       ⊎-elim
       (λ w. _⊎_.inr (w .0 .other ∙ sym (w .1 .other)))
-      (λ w. let p = w .0 .byte in let q = w .1 .byte in _⊎_.inl ((l, ne-eqb (environmentByte τ s) noMove (λ z. let n : ⊥ = omega arith in n)), omega arith, omega arith))
+      (λ w. let p = w .0 .byte in let q = w .1 .byte in _⊎_.inl ((l, has-move τ s (omega arith)), omega arith, omega arith))
       (same-winner s l))
       (λ e. _⊎_.inr (on (ltb s stateLimit)
       (λ f. x .environment-rest s (ltb-false s (G .states) e) (ltb-true s stateLimit f) ∙ sym (y .environment-rest s (ltb-false s (G .states) e) (ltb-true s stateLimit f)))
@@ -119,7 +129,7 @@ module _ (fair : Bool) (G : Arena) (few-inputs : G .inputs ≤ noMove) (few-outp
         environment = table-agrees (Free (G .states) τ false) τ τ′ (x .environment-size ∙ sym (y .environment-size)) environment-byte;
       }
 
--- what a table is in one run, it is in both if they are the same
+-- tables that are the same agree
 tables-same : (n inputs : ℕ) (σ τ σ′ τ′ : List ℕ) → σ ≡ σ′ → τ ≡ τ′ → TablesAgree n inputs σ τ σ′ τ′
 tables-same n inputs σ τ σ′ τ′ e f =
     record {
@@ -137,8 +147,8 @@ after-refusal number n inputs σ τ σ′ τ′ e f = record { served = λ z. ta
 -- ---- the follower
 
 -- two runs of the follower say the same
-pub one-step : {i o : ℕ} {G : Arena} {σ : List ℕ} {p : Position} {x : ℕ} {r r′ : Followed} → FollowedBy i o G σ p x r → FollowedBy i o G σ p x r′ → r ≡ r′
-one-step u v = u .answer ∙ sym (v .answer)
+pub one-follow : {i o : ℕ} {G : Arena} {σ : List ℕ} {p : Position} {x : ℕ} {r r′ : Followed} → FollowedBy i o G σ p x r → FollowedBy i o G σ p x r′ → r ≡ r′
+one-follow u v = u .answer ∙ sym (v .answer)
 
 -- ---- the call for a given automaton
 
@@ -167,9 +177,14 @@ module _ {fair : Bool} (i o : ℕ) {start n : ℕ} {transitions accepting : List
         tables = after-refusal _ n (2 ^ i) σ τ σ′ τ′ (u .1 ∙ sym (v .1)) (u .2 ∙ sym (v .2));
       }
 
-  -- two runs of the call for a given automaton agree
-  pub one-given : GivenAgree n (2 ^ i) σ τ σ′ τ′ r r′
-  one-given = ⊎-elim given-served (λ z. given-refused (something _ z)) (refused-or-served (givenRefusal i o start (arena i o n transitions accepting mask) σ₀ τ₀))
+  given-agrees : GivenAgree n (2 ^ i) σ τ σ′ τ′ r r′
+  given-agrees = ⊎-elim given-served (λ z. given-refused (something _ z)) (refused-or-served (givenRefusal i o start (arena i o n transitions accepting mask) σ₀ τ₀))
+
+-- two runs of the call for a given automaton agree
+pub one-given : {fair : Bool} (i o : ℕ) {start n : ℕ} {transitions accepting : List ℕ} {mask : ℕ} {σ₀ τ₀ σ τ σ′ τ′ : List ℕ} {r r′ : Answer}
+    → GivenSolved fair i o start (arena i o n transitions accepting mask) σ₀ τ₀ σ τ r → GivenSolved fair i o start (arena i o n transitions accepting mask) σ₀ τ₀ σ′ τ′ r′
+    → GivenAgree n (2 ^ i) σ τ σ′ τ′ r r′
+one-given i o x y = given-agrees i o x y
 
 -- ---- the rule call
 
@@ -250,8 +265,12 @@ module _ {fair : Bool} {i o : ℕ} {rule condition : List ℕ} {old new new′ :
         after-refusal _ _ (2 ^ i) _ _ _ _ (u .1 ∙ sym (v .1)) (u .2 ∙ sym (v .2)),
       )
 
-  -- two runs of the rule call agree
-  pub one-rule : RuleAgree (2 ^ i) new new′ r r′
-  one-rule =
+  rule-agrees : RuleAgree (2 ^ i) new new′ r r′
+  rule-agrees =
       let w = ⊎-elim rule-served (λ n. rule-refused (something (x .refusal) n)) (refused-or-served (x .refusal)) in
       record { answer = w .0; transitions = same-automaton .0; accepting = same-automaton .1; tables = w .1 }
+
+-- two runs of the rule call agree
+pub one-rule : {fair : Bool} {i o : ℕ} {rule condition : List ℕ} {old new new′ : Buffers} {r r′ : Answer}
+    → RuleSolved fair i o rule condition old new r → RuleSolved fair i o rule condition old new′ r′ → RuleAgree (2 ^ i) new new′ r r′
+one-rule x y = rule-agrees x y

@@ -1,7 +1,7 @@
 -- What two runs of a call that solves a game have in common. Two runs are two answers, each with the buffers that it left, for one input and the same buffers before;
--- proofs/OneAnswer.antt says that any two for which the call's promise holds agree so. Everything is determined, the answer, n, the automaton, who wins which
--- state and every byte, but for the free bytes: those of a state below n in the table of the player who wins it, where any good byte may stand (01, "The game
--- and its tables").
+-- proofs/OneAnswer.antt says that any two for which the call's promise holds agree so. Determined are the answer, n, the automaton, who wins which state, and every
+-- byte of both tables that is not free. Free are the bytes of a state below n in the table of the player who wins it: there any good byte may stand (01, "The game
+-- and its tables"). No promise of a call that 01 names rests on this file.
 -- Assumes nothing.
 use Prim.Native.Nat.{ℕ, _/_, _<_}
 use mathlib.Core.Path.{_≡_}
@@ -18,8 +18,8 @@ use Rattle.game.specs.Rule.{Buffers}
 abbrev pub isNoMove : List ℕ → ℕ → Bool
 isNoMove table k = eqb (getD table k 0) noMove
 
--- the bytes of state s in a player's table (true for the system, false for the environment) are free: the state is below n and the player wins it,
--- which the environment's table τ tells, since it has 255 exactly where the system wins
+-- the bytes of state s in a player's table (true for the system, false for the environment) are free: the state is below n, and the player wins it, which the
+-- environment's table τ tells, since it has 255 exactly where the system wins (proofs/OneAnswer.antt, system-free and environment-free)
 abbrev pub Free : ℕ → List ℕ → Bool → ℕ → Type 0
 Free n τ player s = (s < n) × (isNoMove τ s ≡ player)
 

@@ -1,7 +1,7 @@
 -- The listing call has one outcome: two runs on one input, into outputs that held the same, for which its promise holds agree as specs/Agreement.antt says.
 -- Assumes nothing.
 use Prim.Native.Nat.{ℕ, _^_, min}
-use mathlib.Core.Path.{_≡_, refl, sym, ap, _∙_, subst}
+use mathlib.Core.Path.{_≡_, sym, ap, _∙_, subst}
 use mathlib.Core.Bool.{Bool, true, false}
 use mathlib.Core.List.{List, _++_}
 use mathlib.Core.Logic.{_⊎_, ⊎-elim}
@@ -63,8 +63,8 @@ both-texts p q =
     p
 
 -- two runs of the listing call agree
-pub one-listing : {input output output₁ output₂ : List ℕ} {r₁ r₂ : ℕ} → Listed input output output₁ r₁ → Listed input output output₂ r₂ → ListedAgree input output output₁ output₂ r₁ r₂
-one-listing {input} {output} {output₁} {output₂} {r₁} {r₂} x y =
+pub one-list : {input output output₁ output₂ : List ℕ} {r₁ r₂ : ℕ} → Listed input output output₁ r₁ → Listed input output output₂ r₂ → ListedAgree input output output₁ output₂ r₁ r₂
+one-list {input} {output} {output₁} {output₂} {r₁} {r₂} x y =
     record {
       text₁ = x .text;
       text₂ = y .text;

@@ -19,7 +19,7 @@ use Rattle.automaton.specs.Alphabet.{badAlphabet, tooLong}
 use Rattle.automaton.specs.Limits.{stateLimit}
 use Rattle.game.specs.declared.answer.Answer.{Answer}
 use Rattle.game.specs.declared.answer.Answer.the-variants.{Can, Cannot, Refused}
-use Rattle.game.specs.Answer.{answerStates, verdictOf}
+use Rattle.game.specs.Answer.{answerStates}
 use Rattle.game.specs.Rule.{Buffers, buffers, shortBuffers, ruleRefusal, RuleSolved}
 use Rattle.game.proofs.AnswerLaws.{verdict-states}
 use Rattle.listing.specs.Listing.{listing, malformed}

@@ -122,5 +122,6 @@ module _ {i o : ℕ} {text t a t₁ a₁ t₂ a₂ : List ℕ} {r r′ : Constru
       (refused-or-served (x .refusal))
 
 -- two runs of the construction call agree in the answer and in both buffers
-pub one-construction : {i o : ℕ} {text t a t₁ a₁ t₂ a₂ : List ℕ} {r r′ : Construction} → Constructed i o text t a t₁ a₁ r → Constructed i o text t a t₂ a₂ r′ → (r ≡ r′) × (t₁ ≡ t₂) × (a₁ ≡ a₂)
+pub one-construction : {i o : ℕ} {text t a t₁ a₁ t₂ a₂ : List ℕ} {r r′ : Construction}
+    → Constructed i o text t a t₁ a₁ r → Constructed i o text t a t₂ a₂ r′ → (r ≡ r′) × (t₁ ≡ t₂) × (a₁ ≡ a₂)
 one-construction x y = let b = same-buffers x y in (same-construction x y, b .0, b .1)

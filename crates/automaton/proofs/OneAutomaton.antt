@@ -57,7 +57,8 @@ abbrev pub Built : Formula → ℕ → ℕ → List ℕ → List ℕ → List �
 Built φ L n t a t′ a′ = Automaton φ L n t′ a′ × Cleared (n * L) (stateLimit * L) t t′ × Cleared n stateLimit a a′
 
 -- a formula and its letters determine both buffers
-pub one-automaton : (L : ℕ) → 0 < L → (φ ψ : Formula) → φ ≡ ψ → (n m : ℕ) → n ≡ m → (t a t₁ a₁ t₂ a₂ : List ℕ) → Built φ L n t a t₁ a₁ → Built ψ L m t a t₂ a₂ → (t₁ ≡ t₂) × (a₁ ≡ a₂)
+pub one-automaton : (L : ℕ) → 0 < L → (φ ψ : Formula) → φ ≡ ψ → (n m : ℕ) → n ≡ m → (t a t₁ a₁ t₂ a₂ : List ℕ)
+    → Built φ L n t a t₁ a₁ → Built ψ L m t a t₂ a₂ → (t₁ ≡ t₂) × (a₁ ≡ a₂)
 one-automaton L pos φ ψ e n m f t a t₁ a₁ t₂ a₂ x y =
     let z : Built φ L n t a t₂ a₂ = subst₂ (λ (χ : Formula) (k : ℕ). Built χ L k t a t₂ a₂) (sym e) (sym f) y in
     (one-transitions φ L n pos t₁ a₁ t₂ a₂ (x .0) (z .0) (stateLimit * L) t (x .1) (z .1), one-accepting φ L n pos t₁ a₁ t₂ a₂ (x .0) (z .0) stateLimit a (x .2) (z .2))
@@ -84,7 +85,8 @@ abbrev pub LeftBy : ℕ → ℕ → List ℕ → Refusal → List ℕ → List �
 LeftBy i o text x t a t′ a′ = (x ≡ StateCount → Over i o text t a t′ a′) × ((x ≡ StateCount → ⊥) → (t′ ≡ t) × (a′ ≡ a))
 
 -- a refusal determines both buffers
-pub one-refused : (i o : ℕ) (text : List ℕ) (x y : Refusal) → x ≡ y → (t a t₁ a₁ t₂ a₂ : List ℕ) → LeftBy i o text x t a t₁ a₁ → LeftBy i o text y t a t₂ a₂ → (t₁ ≡ t₂) × (a₁ ≡ a₂)
+pub one-refused : (i o : ℕ) (text : List ℕ) (x y : Refusal) → x ≡ y → (t a t₁ a₁ t₂ a₂ : List ℕ)
+    → LeftBy i o text x t a t₁ a₁ → LeftBy i o text y t a t₂ a₂ → (t₁ ≡ t₂) × (a₁ ≡ a₂)
 one-refused i o text x y e t a t₁ a₁ t₂ a₂ u w =
     let v : LeftBy i o text x t a t₂ a₂ = subst (λ (z : Refusal). LeftBy i o text z t a t₂ a₂) (sym e) w in
     ⊎-elim

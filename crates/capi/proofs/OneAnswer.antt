@@ -68,7 +68,8 @@ one-follow x y =
 
 -- two runs of `airtable_try_rule` agree
 pub one-try-rule : {i o : ℕ} {text letters : List ℕ} {number satisfied place number′ satisfied′ place′ : ℕ}
-    → TrialWritten i o text letters number satisfied place → TrialWritten i o text letters number′ satisfied′ place′ → TrialWrittenAgree number satisfied place number′ satisfied′ place′
+    → TrialWritten i o text letters number satisfied place → TrialWritten i o text letters number′ satisfied′ place′
+    → TrialWrittenAgree number satisfied place number′ satisfied′ place′
 one-try-rule x y =
     let e = one-trial (x .tried) (y .tried) in
     record {

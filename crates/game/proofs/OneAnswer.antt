@@ -14,6 +14,7 @@ use lib.Pow.{pow-pos, pow-mono}
 use borrow.Author.Tests.{eq-eqb, ne-eqb, ltb-true, ltb-false}
 use Rattle.reader.specs.declared.reading.Reading.{Reading}
 use Rattle.reader.specs.declared.reading.Reading.the-variants.{Good, Bad, TooManyNodes, TooManyOperators}
+use Rattle.reader.specs.declared.refusal.Refusal.{Refusal}
 use Rattle.reader.specs.declared.refusal.Refusal.the-variants.{Nothing, Alphabet}
 use Rattle.reader.specs.Formula.{Formula}
 use Rattle.reader.specs.Marks.{ruleKind}
@@ -125,7 +126,8 @@ module _ (fair : Bool) (G : Arena) (few-inputs : G .inputs ≤ noMove) (few-outp
   tables-agree =
       record {
         system = table-agrees (λ k. Free (G .states) τ true (k / G .inputs)) σ σ′ (x .system-size ∙ sym (y .system-size))
-            (λ k. subst (λ (j : ℕ). FreeOrSame (λ b. Free (G .states) τ true (k / G .inputs)) σ σ′ j) (div-add-mod' k (G .inputs)) (system-byte (k / G .inputs) (k % G .inputs) (mod-lt k some)));
+            (λ k. subst (λ (j : ℕ). FreeOrSame (λ b. Free (G .states) τ true (k / G .inputs)) σ σ′ j) (div-add-mod' k (G .inputs))
+            (system-byte (k / G .inputs) (k % G .inputs) (mod-lt k some)));
         environment = table-agrees (Free (G .states) τ false) τ τ′ (x .environment-size ∙ sym (y .environment-size)) environment-byte;
       }
 
@@ -154,7 +156,10 @@ one-follow u v = u .answer ∙ sym (v .answer)
 
 module _ {fair : Bool} (i o : ℕ) {start n : ℕ} {transitions accepting : List ℕ} {mask : ℕ} {σ₀ τ₀ σ τ σ′ τ′ : List ℕ} {r r′ : Answer}
     (x : GivenSolved fair i o start (arena i o n transitions accepting mask) σ₀ τ₀ σ τ r) (y : GivenSolved fair i o start (arena i o n transitions accepting mask) σ₀ τ₀ σ′ τ′ r′) where
-  given-served : givenRefusal i o start (arena i o n transitions accepting mask) σ₀ τ₀ ≡ Nothing → GivenAgree n (2 ^ i) σ τ σ′ τ′ r r′
+  abbrev given-first : Refusal
+  given-first = givenRefusal i o start (arena i o n transitions accepting mask) σ₀ τ₀
+
+  given-served : given-first ≡ Nothing → GivenAgree n (2 ^ i) σ τ σ′ τ′ r r′
   unfolding givenRefusal
   given-served z =
       let G = arena i o n transitions accepting mask in
@@ -165,10 +170,11 @@ module _ {fair : Bool} (i o : ℕ) {start n : ℕ} {transitions accepting : List
       let few′ : 2 ^ o ≤ 16 = pow-mono {j = 4} (outputs-fit i o a) in
       record {
         answer = u .1 ∙ ap (λ (c : Bool). verdictOf c n) (one-verdict fair G σ τ σ′ τ′ start (u .0) (v .0) (u .3) (v .3)) ∙ sym (v .1);
-        tables = after-verdict _ n (2 ^ i) σ τ σ′ τ′ (x .number ∙ ap numberOf z) (tables-agree fair G (omega arith) (omega arith) (pow-pos i) σ₀ τ₀ σ τ σ′ τ′ (u .2) (v .2));
+        tables = after-verdict _ n (2 ^ i) σ τ σ′ τ′ (x .number ∙ ap numberOf z)
+            (tables-agree fair G (omega arith) (omega arith) (pow-pos i) σ₀ τ₀ σ τ σ′ τ′ (u .2) (v .2));
       }
 
-  given-refused : (givenRefusal i o start (arena i o n transitions accepting mask) σ₀ τ₀ ≡ Nothing → ⊥) → GivenAgree n (2 ^ i) σ τ σ′ τ′ r r′
+  given-refused : (given-first ≡ Nothing → ⊥) → GivenAgree n (2 ^ i) σ τ σ′ τ′ r r′
   given-refused z =
       let u = x .refused z in
       let v = y .refused z in
@@ -178,7 +184,7 @@ module _ {fair : Bool} (i o : ℕ) {start n : ℕ} {transitions accepting : List
       }
 
   given-agrees : GivenAgree n (2 ^ i) σ τ σ′ τ′ r r′
-  given-agrees = ⊎-elim given-served (λ z. given-refused (something _ z)) (refused-or-served (givenRefusal i o start (arena i o n transitions accepting mask) σ₀ τ₀))
+  given-agrees = ⊎-elim given-served (λ z. given-refused (something given-first z)) (refused-or-served given-first)
 
 -- two runs of the call for a given automaton agree
 pub one-given : {fair : Bool} (i o : ℕ) {start n : ℕ} {transitions accepting : List ℕ} {mask : ℕ} {σ₀ τ₀ σ τ σ′ τ′ : List ℕ} {r r′ : Answer}
@@ -232,12 +238,17 @@ module _ {fair : Bool} {i o : ℕ} {rule condition : List ℕ} {old new new′ :
   Played b can G = Tables fair G (old .system) (old .environment) (b .system) (b .environment) × Verdict fair G (b .system) (b .environment) 0 can
 
   -- the second run's, on the first run's arena
-  moved : (n m : ℕ) → m ≡ n → (κ χ : Formula) → χ ≡ κ → (can : Bool) → Played new′ can (arena i o m (new′ .transitions) (new′ .accepting) (maskOf χ i)) → Played new′ can (of n κ)
+  moved : (n m : ℕ) → m ≡ n → (κ χ : Formula) → χ ≡ κ → (can : Bool)
+      → Played new′ can (arena i o m (new′ .transitions) (new′ .accepting) (maskOf χ i)) → Played new′ can (of n κ)
   moved n m e κ χ f can p =
       let g : arena i o m (new′ .transitions) (new′ .accepting) (maskOf χ i) ≡ of n κ = rw (e, f, same-automaton .0, same-automaton .1) refl in
       subst (Played new′ can) g p
 
-  rule-served : x .refusal ≡ Nothing → (r ≡ r′) × TablesAfter (answerNumber r) (answerStates r) (2 ^ i) (new .system) (new .environment) (new′ .system) (new′ .environment)
+  -- the same answer, and the tables after it
+  abbrev Outcome : Type 0
+  Outcome = (r ≡ r′) × TablesAfter (answerNumber r) (answerStates r) (2 ^ i) (new .system) (new .environment) (new′ .system) (new′ .environment)
+
+  rule-served : x .refusal ≡ Nothing → Outcome
   unfolding ruleRefusal
   rule-served z =
       let u = x .served z in
@@ -253,11 +264,12 @@ module _ {fair : Bool} {i o : ℕ} {rule condition : List ℕ} {old new new′ :
       let G = of (x .states) (s .assumption) in (
         u .1 ∙ ap₂ verdictOf (one-verdict fair G _ _ _ _ 0 (u .0) (v .0) (s .verdict) (w .1)) (sym m) ∙ sym (v .1),
         after-verdict _ _ (2 ^ i) _ _ _ _ (x .number ∙ ap numberOf z)
-            (subst (λ (n : ℕ). TablesAgree n (2 ^ i) (new .system) (new .environment) (new′ .system) (new′ .environment)) (sym (ap answerStates (u .1) ∙ verdict-states (u .0) (x .states)))
+            (subst (λ (n : ℕ). TablesAgree n (2 ^ i) (new .system) (new .environment) (new′ .system) (new′ .environment))
+            (sym (ap answerStates (u .1) ∙ verdict-states (u .0) (x .states)))
             (tables-agree fair G (omega arith) (omega arith) (pow-pos i) _ _ _ _ _ _ (s .tables) (w .0))),
       )
 
-  rule-refused : (x .refusal ≡ Nothing → ⊥) → (r ≡ r′) × TablesAfter (answerNumber r) (answerStates r) (2 ^ i) (new .system) (new .environment) (new′ .system) (new′ .environment)
+  rule-refused : (x .refusal ≡ Nothing → ⊥) → Outcome
   rule-refused z =
       let u = x .refused z in
       let v = y .refused (λ e. z (same-refusal ∙ e)) in (

@@ -20,8 +20,8 @@ use Rattle.listing.proofs.RequestLaws.{one-request}
 
 module _ {input : List ℕ} {i o : ℕ} {fair : Bool} {condition rule : List ℕ} (asks : Asks input i o fair condition rule) (text text′ : List ℕ) where
   -- two listings of a verdict
-  both-verdicts : (can : Bool) (n : ℕ) (new new′ : Buffers) (a : Answer) → RuleAgree (2 ^ i) new new′ (verdictOf can n) a → text ≡ listing i new (verdictOf can n) → text′ ≡ listing i new′ a
-      → ListingsAgree input text text′
+  both-verdicts : (can : Bool) (n : ℕ) (new new′ : Buffers) (a : Answer) → RuleAgree (2 ^ i) new new′ (verdictOf can n) a
+      → text ≡ listing i new (verdictOf can n) → text′ ≡ listing i new′ a → ListingsAgree input text text′
   both-verdicts can n new new′ a w e f =
       record {
         i = i;
@@ -40,7 +40,8 @@ module _ {input : List ℕ} {i o : ℕ} {fair : Bool} {condition rule : List ℕ
       }
 
   -- two listings, by the first answer
-  both-listings : (new new′ : Buffers) (a b : Answer) → RuleAgree (2 ^ i) new new′ a b → text ≡ listing i new a → text′ ≡ listing i new′ b → (text ≡ text′) ⊎ ListingsAgree input text text′
+  both-listings : (new new′ : Buffers) (a b : Answer) → RuleAgree (2 ^ i) new new′ a b
+      → text ≡ listing i new a → text′ ≡ listing i new′ b → (text ≡ text′) ⊎ ListingsAgree input text text′
   both-listings new new′ (Can n) b w e f = _⊎_.inr (both-verdicts true n new new′ b w e f)
   both-listings new new′ (Cannot n) b w e f = _⊎_.inr (both-verdicts false n new new′ b w e f)
   both-listings new new′ (Refused x) b w e f = _⊎_.inl (e ∙ sym (f ∙ ap (listing i new′) (sym (w .answer))))
@@ -63,7 +64,8 @@ both-texts p q =
     p
 
 -- two runs of the listing call agree
-pub one-list : {input output output₁ output₂ : List ℕ} {r₁ r₂ : ℕ} → Listed input output output₁ r₁ → Listed input output output₂ r₂ → ListedAgree input output output₁ output₂ r₁ r₂
+pub one-list : {input output output₁ output₂ : List ℕ} {r₁ r₂ : ℕ}
+    → Listed input output output₁ r₁ → Listed input output output₂ r₂ → ListedAgree input output output₁ output₂ r₁ r₂
 one-list {input} {output} {output₁} {output₂} {r₁} {r₂} x y =
     record {
       text₁ = x .text;

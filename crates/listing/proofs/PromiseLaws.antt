@@ -120,7 +120,7 @@ module _ (s : List ℕ) (ok : isRequest s ≡ true) where
           condition = conditionPart s (conditionStart s);
           rule = rulePart s (conditionStart s);
           asks = request-asks s ok;
-          answers = record { new = buffers t a σ τ; answer = x; solved = subst (λ (b : Buffers). RuleSolved (isFairLine s) (digitAt s 0) (digitAt s 2) (rulePart s (conditionStart s)) (conditionPart s (conditionStart s)) b (buffers t a σ τ) x) l m; listed = listing-same (digitAt s 0) t a σ τ x };
+          answers = record { new = buffers t a σ τ; answer = x; solved = rw (← l) m; listed = listing-same (digitAt s 0) t a σ τ x };
         });
         written = v .0;
         count = v .1;

@@ -1,15 +1,15 @@
--- The promises of the layer's calls have one answer: what is given determines what the trial says, a condition's mask, n, and the refusal with its place.
--- The buffers of the construction call are determined by OneAutomaton.
+-- The layer's calls have one outcome: two runs on one input for which the call's promise holds agree in the answer, and two of the construction call,
+-- from the same old buffers, also in every byte of both buffers, served or refused.
 -- Assumes nothing.
-use Prim.Native.Nat.{ℕ}
+use Prim.Native.Nat.{ℕ, _+_}
 use mathlib.Core.Path.{_≡_, refl, sym, ap, _∙_, subst}
 use mathlib.Core.Bool.{Bool, true, false, cond}
 use mathlib.Core.List.{List}
 use mathlib.Core.Logic.{_↔_, _⊎_, ⊎-elim}
+use lib.Pow.{pow-pos}
 use Rattle.reader.specs.declared.reading.Reading.{Reading}
 use Rattle.reader.specs.declared.reading.Reading.the-variants.{Good, TooLong, Bad, TooManyNodes, TooManyOperators}
 use Rattle.reader.specs.declared.refusal.Refusal.{Refusal}
-use Rattle.reader.specs.declared.refusal.Refusal.the-variants.{Nothing}
 use Rattle.reader.specs.Formula.{Formula}
 use Rattle.reader.specs.Marks.{ruleKind}
 use Rattle.reader.specs.Reading.{ReadingOf}
@@ -25,7 +25,9 @@ use Rattle.automaton.specs.declared.construct.Construction.the-variants.
 use Rattle.automaton.specs.Trace.{Satisfies}
 use Rattle.automaton.specs.Trial.{trialRefusal, Tried}
 use Rattle.automaton.specs.Condition.{maskOf, conditionRefusal, Conditioned}
+use Rattle.automaton.specs.Alphabet.{letterCount}
 use Rattle.automaton.specs.Construction.{CountOf, constructRefusal, Constructed}
+use Rattle.automaton.proofs.OneAutomaton.{one-automaton, one-refused}
 
 -- two tests that say whether the same holds are one
 same-test : {A : Type 0} (b c : Bool) → (b ≡ true) ↔ A → (c ≡ true) ↔ A → b ≡ c
@@ -33,11 +35,11 @@ same-test true c f g = sym (g .1 (f .0 refl))
 same-test false true f g = f .1 (g .0 refl)
 same-test false false f g = refl
 
-module _ (i o : ℕ) (text letters : List ℕ) (r r′ : Trial) (x : Tried i o text letters r) (y : Tried i o text letters r′) where
+module _ {i o : ℕ} {text letters : List ℕ} {r r′ : Trial} (x : Tried i o text letters r) (y : Tried i o text letters r′) where
   same-trial-refusal : x .refusal ≡ y .refusal
   same-trial-refusal = x .first ∙ ap (trialRefusal i o text letters) (one-reading i o true text (x .read) (y .read)) ∙ sym (y .first)
 
-  -- the trial has one answer
+  -- two runs of the trial say the same
   pub one-trial : r ≡ r′
   one-trial =
       ⊎-elim
@@ -52,11 +54,11 @@ module _ (i o : ℕ) (text letters : List ℕ) (r r′ : Trial) (x : Tried i o t
       x .refused e ∙ ap Rattle.automaton.specs.declared.trial.Trial.the-variants.Refused same-trial-refusal ∙ sym (y .refused (λ z. e (same-trial-refusal ∙ z))))
       (refused-or-served (x .refusal))
 
-module _ (i : ℕ) (text : List ℕ) (r r′ : Assumption) (x : Conditioned i text r) (y : Conditioned i text r′) where
+module _ {i : ℕ} {text : List ℕ} {r r′ : Assumption} (x : Conditioned i text r) (y : Conditioned i text r′) where
   same-condition-refusal : x .refusal ≡ y .refusal
   same-condition-refusal = x .first ∙ ap (conditionRefusal i text) (one-reading i 0 false text (x .read) (y .read)) ∙ sym (y .first)
 
-  -- a condition has one mask
+  -- two runs of the condition's call say the same: the mask, or the refusal with its place
   pub one-condition : r ≡ r′
   one-condition =
       ⊎-elim
@@ -88,7 +90,7 @@ answered z n = cond (isNothing z) (Built n) (Rattle.automaton.specs.decl
 without-count : (z : Refusal) (n m : ℕ) → isNothing z ≡ false → answered z n ≡ answered z m
 without-count z n m e = rw e
 
-module _ (i o : ℕ) (text t a t₁ a₁ t₂ a₂ : List ℕ) (r r′ : Construction) (x : Constructed i o text t a t₁ a₁ r) (y : Constructed i o text t a t₂ a₂ r′) where
+module _ {i o : ℕ} {text t a t₁ a₁ t₂ a₂ : List ℕ} {r r′ : Construction} (x : Constructed i o text t a t₁ a₁ r) (y : Constructed i o text t a t₂ a₂ r′) where
   same-construction-refusal : x .refusal ≡ y .refusal
   same-construction-refusal =
       x .first
@@ -103,6 +105,24 @@ module _ (i o : ℕ) (text t a t₁ a₁ t₂ a₂ : List ℕ) (r r′ : Constru
       (λ n. without-count (x .refusal) (x .states) (y .states) n)
       (refused-or-served (x .refusal))
 
-  -- the construction call has one answer
-  pub one-construction : r ≡ r′
-  one-construction = x .answer ∙ same-states ∙ ap (λ (z : Refusal). answered z (y .states)) same-construction-refusal ∙ sym (y .answer)
+  same-construction : r ≡ r′
+  same-construction = x .answer ∙ same-states ∙ ap (λ (z : Refusal). answered z (y .states)) same-construction-refusal ∙ sym (y .answer)
+
+  same-buffers : (t₁ ≡ t₂) × (a₁ ≡ a₂)
+  same-buffers =
+      ⊎-elim
+      (λ n.
+      let u = x .served n in
+      let v = y .served (sym same-construction-refusal ∙ n) in
+      one-automaton (letterCount i o) (pow-pos (i + o)) (u .formula) (v .formula) (one-formula i o true text (u .good .reads) (v .good .reads))
+      (x .states) (y .states) (x .counted (u .formula) (u .good) ∙ sym (y .counted (u .formula) (u .good))) t a t₁ a₁ t₂ a₂
+      (u .automaton, u .transitions-rest, u .accepting-rest) (v .automaton, v .transitions-rest, v .accepting-rest))
+      (λ n.
+      let e = something (x .refusal) n in
+      one-refused i o text (x .refusal) (y .refusal) same-construction-refusal t a t₁ a₁ t₂ a₂ (x .over, x .untouched e) (y .over, y .untouched (λ z. e (same-construction-refusal ∙ z))))
+      (refused-or-served (x .refusal))
+
+-- two runs of the construction call agree in the answer and in both buffers
+pub one-construction : {i o : ℕ} {text t a t₁ a₁ t₂ a₂ : List ℕ} {r r′ : Construction}
+    → Constructed i o text t a t₁ a₁ r → Constructed i o text t a t₂ a₂ r′ → (r ≡ r′) × (t₁ ≡ t₂) × (a₁ ≡ a₂)
+one-construction x y = let b = same-buffers x y in (same-construction x y, b .0, b .1)

@@ -1,19 +1,24 @@
--- The promise on the buffers has one answer: a formula, its letters and the old contents determine the transitions and the flags, every byte of them.
+-- The promise on the buffers has one answer: a formula, its letters and the old contents determine the transitions and the flags, every byte of them;
+-- so do a refusal and the old contents.
 -- Assumes nothing.
-use Prim.Native.Nat.{ℕ, _+_, _*_, _/_, _%_, _≤_, _<_}
-use mathlib.Core.Path.{_≡_, sym, ap, _∙_, subst}
-use mathlib.Core.Bool.{Bool, true, false}
+use Prim.Native.Nat.{ℕ, _+_, _*_, _/_, _%_, _<_}
+use mathlib.Core.Path.{_≡_, refl, sym, _∙_, subst, subst₂}
 use mathlib.Core.List.{List}
+use mathlib.Core.Logic.{_⊎_, ⊎-elim}
 use native.Mathlib.Nat.{mod-lt, div-add-mod'}
 use native.Mathlib.Omega.{arith}
 use lib.Dec.{ltb}
-use lib.ListN.{length, getD}
+use lib.ListN.{getD}
 use lib.Seq.{ext-getD}
 use borrow.Author.Tests.{ltb-true, ltb-false}
+use Rattle.reader.specs.declared.refusal.Refusal.{Refusal}
+use Rattle.reader.specs.declared.refusal.Refusal.the-variants.{Nothing, Alphabet, TextLength, Buffer, RuleText, RuleNodes, RuleOperators, ConditionText, ConditionNodes, StateCount, GivenCount, Move, State, Value}
 use Rattle.reader.specs.Formula.{Formula}
 use Rattle.reader.proofs.BoolLaws.{on}
-use Rattle.automaton.specs.Discovery.{states}
+use Rattle.reader.proofs.RefusalLaws.{differs}
+use Rattle.automaton.specs.Limits.{stateLimit}
 use Rattle.automaton.specs.Automaton.{Automaton, Cleared}
+use Rattle.automaton.specs.Construction.{Over}
 use Rattle.automaton.proofs.DiscoveryLaws.{quotient-lt}
 
 -- two buffers that agree on what is used, and are cleared alike behind it, are one
@@ -41,8 +46,53 @@ module _ (φ : Formula) (L n : ℕ) (pos : 0 < L) (t a t′ a′ : List ℕ) (x 
       x .numbering .distinct (getD t (s * L + b) 0) (getD t′ (s * L + b) 0) (subst (λ (j : ℕ). getD t (s * L + b) 0 < j) (x .count) (u .0)) (subst (λ (j : ℕ). getD t′ (s * L + b) 0 < j) (x .count) (v .0)) (u .1 ∙ sym (v .1)) in
       subst (λ (j : ℕ). getD t j 0 ≡ getD t′ j 0) e w
 
-  pub one-transitions : (share : ℕ) (old : List ℕ) → Cleared (n * L) share old t → Cleared (n * L) share old t′ → t ≡ t′
+  one-transitions : (share : ℕ) (old : List ℕ) → Cleared (n * L) share old t → Cleared (n * L) share old t′ → t ≡ t′
   one-transitions share old c d = one-buffer (n * L) share old t t′ c d same-move
 
-  pub one-accepting : (share : ℕ) (old : List ℕ) → Cleared n share old a → Cleared n share old a′ → a ≡ a′
+  one-accepting : (share : ℕ) (old : List ℕ) → Cleared n share old a → Cleared n share old a′ → a ≡ a′
   one-accepting share old c d = one-buffer n share old a a′ c d (λ k h. x .marked k h ∙ sym (y .marked k h))
+
+-- the buffers of a served call: the automaton with n states, and cleared behind it
+abbrev pub Built : Formula → ℕ → ℕ → List ℕ → List ℕ → List ℕ → List ℕ → Type 0
+Built φ L n t a t′ a′ = Automaton φ L n t′ a′ × Cleared (n * L) (stateLimit * L) t t′ × Cleared n stateLimit a a′
+
+-- a formula and its letters determine both buffers
+pub one-automaton : (L : ℕ) → 0 < L → (φ ψ : Formula) → φ ≡ ψ → (n m : ℕ) → n ≡ m → (t a t₁ a₁ t₂ a₂ : List ℕ)
+    → Built φ L n t a t₁ a₁ → Built ψ L m t a t₂ a₂ → (t₁ ≡ t₂) × (a₁ ≡ a₂)
+one-automaton L pos φ ψ e n m f t a t₁ a₁ t₂ a₂ x y =
+    let z : Built φ L n t a t₂ a₂ = subst₂ (λ (χ : Formula) (k : ℕ). Built χ L k t a t₂ a₂) (sym e) (sym f) y in
+    (one-transitions φ L n pos t₁ a₁ t₂ a₂ (x .0) (z .0) (stateLimit * L) t (x .1) (z .1), one-accepting φ L n pos t₁ a₁ t₂ a₂ (x .0) (z .0) stateLimit a (x .2) (z .2))
+
+-- a refusal is 9 or another
+nine-or-other : (x : Refusal) → (x ≡ StateCount) ⊎ (x ≡ StateCount → ⊥)
+nine-or-other StateCount = _⊎_.inl refl
+nine-or-other Nothing = _⊎_.inr (differs Nothing StateCount (λ e. omega arith))
+nine-or-other Alphabet = _⊎_.inr (differs Alphabet StateCount (λ e. omega arith))
+nine-or-other TextLength = _⊎_.inr (differs TextLength StateCount (λ e. omega arith))
+nine-or-other Buffer = _⊎_.inr (differs Buffer StateCount (λ e. omega arith))
+nine-or-other (RuleText k) = _⊎_.inr (differs (RuleText k) StateCount (λ e. omega arith))
+nine-or-other RuleNodes = _⊎_.inr (differs RuleNodes StateCount (λ e. omega arith))
+nine-or-other RuleOperators = _⊎_.inr (differs RuleOperators StateCount (λ e. omega arith))
+nine-or-other (ConditionText k) = _⊎_.inr (differs (ConditionText k) StateCount (λ e. omega arith))
+nine-or-other ConditionNodes = _⊎_.inr (differs ConditionNodes StateCount (λ e. omega arith))
+nine-or-other GivenCount = _⊎_.inr (differs GivenCount StateCount (λ e. omega arith))
+nine-or-other (Move k) = _⊎_.inr (differs (Move k) StateCount (λ e. omega arith))
+nine-or-other State = _⊎_.inr (differs State StateCount (λ e. omega arith))
+nine-or-other (Value k) = _⊎_.inr (differs (Value k) StateCount (λ e. omega arith))
+
+-- the buffers of a refused call: after 9 the transitions are cleared, after any other refusal both are as they were
+abbrev pub LeftBy : ℕ → ℕ → List ℕ → Refusal → List ℕ → List ℕ → List ℕ → List ℕ → Type 0
+LeftBy i o text x t a t′ a′ = (x ≡ StateCount → Over i o text t a t′ a′) × ((x ≡ StateCount → ⊥) → (t′ ≡ t) × (a′ ≡ a))
+
+-- a refusal determines both buffers
+pub one-refused : (i o : ℕ) (text : List ℕ) (x y : Refusal) → x ≡ y → (t a t₁ a₁ t₂ a₂ : List ℕ)
+    → LeftBy i o text x t a t₁ a₁ → LeftBy i o text y t a t₂ a₂ → (t₁ ≡ t₂) × (a₁ ≡ a₂)
+one-refused i o text x y e t a t₁ a₁ t₂ a₂ u w =
+    let v : LeftBy i o text x t a t₂ a₂ = subst (λ (z : Refusal). LeftBy i o text z t a t₂ a₂) (sym e) w in
+    ⊎-elim
+    (λ z.
+    let p = u .0 z in
+    let q = v .0 z in
+    (one-buffer 0 _ t t₁ t₂ (p .cleared) (q .cleared) (λ k h. absurd (let n : ⊥ = omega arith in n)), p .untouched ∙ sym (q .untouched)))
+    (λ z. (u .1 z .0 ∙ sym (v .1 z .0), u .1 z .1 ∙ sym (v .1 z .1)))
+    (nine-or-other x)

@@ -2,3 +2,4 @@ pub mod Mode
 pub mod Verdict
 pub mod Step
 pub mod Trial
+pub mod Agreement

@@ -6,7 +6,7 @@ use mathlib.Core.Bool.{Bool}
 use mathlib.Core.List.{List}
 use Rattle.game.specs.declared.answer.Answer.{Answer}
 use Rattle.game.specs.declared.answer.Answer.the-variants.{Can, Cannot, Refused}
-use Rattle.game.specs.Answer.{answerNumber, answerPlace}
+use Rattle.game.specs.Answer.{answerNumber, answerPlace, answerStates}
 use Rattle.game.specs.Arena.{Arena}
 use Rattle.game.specs.Rule.{Buffers, RuleSolved}
 use Rattle.game.specs.Given.{GivenSolved}
@@ -17,19 +17,13 @@ canFlag (Can n) = 1
 canFlag (Cannot n) = 0
 canFlag (Refused x) = 0
 
--- the number of states, and 0 for a refusal
-abbrev pub stateCount : Answer → ℕ
-stateCount (Can n) = n
-stateCount (Cannot n) = n
-stateCount (Refused x) = 0
-
 -- the rule call: the library's answer, and the four numbers of it
 pub record RuleWritten (fair : Bool) (i o : ℕ) (rule condition : List ℕ) (old new : Buffers) (number can n place : ℕ) : Type 0 where
   pub answer : Answer
   pub solved : RuleSolved fair i o rule condition old new answer
   pub number-of : number ≡ answerNumber answer
   pub can-of : can ≡ canFlag answer
-  pub n-of : n ≡ stateCount answer
+  pub n-of : n ≡ answerStates answer
   pub place-of : place ≡ answerPlace answer
 
 -- the call for a given automaton: the library's answer, and the three numbers of it

@@ -1,7 +1,7 @@
 // The numbers of an answer of the two calls that solve a game.
 ghost use mathlib.Core.Path.{_≡_};
-ghost use Rattle.game.specs.Answer.{answerNumber, answerPlace};
-ghost use Rattle.capi.specs.Verdict.{canFlag, stateCount};
+ghost use Rattle.game.specs.Answer.{answerNumber, answerPlace, answerStates};
+ghost use Rattle.capi.specs.Verdict.{canFlag};
 use game::answer::Answer;
 use reader::refusal::number_of;
 use reader::refusal::place_of;
@@ -41,7 +41,7 @@ pub(crate) fn can_flag(answer: Answer) -> u8
 
 // The number of states, 0 for a refusal.
 pub(crate) fn state_count(answer: Answer) -> usize
-    ensures { λ r. ⌜ r ≡ stateCount answer ⌝ }
+    ensures { λ r. ⌜ r ≡ answerStates answer ⌝ }
 {
     match answer {
         Answer::Can(n) => n,

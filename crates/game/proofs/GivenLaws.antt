@@ -76,7 +76,7 @@ module _ (i o start : ℕ) (G : Arena) (σ τ : List ℕ) where
     refused-later b r h = rw (a, b) h
 
 -- where nothing is refused, the test before it passed
-passed : (b : Bool) (x y : Refusal) → 0 < numberOf x → cond b x y ≡ Nothing → (b ≡ false) × (y ≡ Nothing)
+pub passed : (b : Bool) (x y : Refusal) → 0 < numberOf x → cond b x y ≡ Nothing → (b ≡ false) × (y ≡ Nothing)
 passed true x y p e = let z : ⊥ = omega (arith, ap numberOf e) in absurd z
 passed false x y p e = (refl, e)
 

@@ -1,53 +1,198 @@
--- The promises of the two calls that solve a game have one answer: what is given determines the verdict, n, the refusal with its place, and for a
--- rule every byte of the transitions and the flags. The bytes of a winner's table are free.
+-- The calls of the game have one outcome: two runs on one input, from the same old buffers, for which the call's promise holds agree as specs/Agreement.antt
+-- says. The answer, both of the automaton's buffers, who wins which state and every byte of both tables are determined, but for the winner's bytes.
 -- Assumes nothing.
-use Prim.Native.Nat.{ℕ, _+_, _*_, _^_, _<_, _≤_}
+use Prim.Native.Nat.{ℕ, _+_, _*_, _/_, _%_, _^_, _<_, _≤_}
 use mathlib.Core.Path.{_≡_, refl, sym, ap, ap₂, _∙_, subst}
-use mathlib.Core.Bool.{Bool, true, false, cond}
+use mathlib.Core.Bool.{Bool, true, false}
 use mathlib.Core.List.{List}
-use mathlib.Core.Logic.{_⊎_, ⊎-elim}
+use mathlib.Core.Logic.{_↔_, _⊎_, ⊎-elim}
+use native.Mathlib.Nat.{mod-lt, div-add-mod', mul-le-mul-right}
 use native.Mathlib.Omega.{arith}
-use lib.Pow.{pow-pos}
+use lib.Dec.{eqb, ltb}
+use lib.ListN.{length, getD}
+use lib.Pow.{pow-pos, pow-mono}
+use borrow.Author.Tests.{eq-eqb, ne-eqb, ltb-true, ltb-false}
 use Rattle.reader.specs.declared.reading.Reading.{Reading}
 use Rattle.reader.specs.declared.reading.Reading.the-variants.{Good, TooLong, Bad, TooManyNodes, TooManyOperators}
 use Rattle.reader.specs.declared.refusal.Refusal.{Refusal}
-use Rattle.reader.specs.declared.refusal.Refusal.the-variants.{Nothing}
+use Rattle.reader.specs.declared.refusal.Refusal.the-variants.{Nothing, Alphabet}
 use Rattle.reader.specs.Formula.{Formula}
-use Rattle.reader.specs.Marks.{ruleKind, conditionKind}
-use Rattle.reader.specs.Reading.{ReadingOf, IsGood}
+use Rattle.reader.specs.Marks.{ruleKind}
+use Rattle.reader.specs.Reading.{ReadingOf}
+use Rattle.reader.specs.Refusal.{numberOf}
+use Rattle.reader.proofs.BoolLaws.{on, clash}
 use Rattle.reader.proofs.RefusalLaws.{something, refused-or-served}
 use Rattle.reader.proofs.Unambiguous.{one-formula, one-reading}
 use Rattle.automaton.specs.Limits.{stateLimit}
-use Rattle.automaton.specs.Alphabet.{letterCount}
-use Rattle.automaton.specs.Automaton.{Automaton, Cleared}
+use Rattle.automaton.specs.Alphabet.{badAlphabet, letterCount}
 use Rattle.automaton.specs.Construction.{CountOf}
 use Rattle.automaton.specs.Condition.{maskOf}
-use Rattle.automaton.proofs.OneAutomaton.{one-transitions, one-accepting}
+use Rattle.automaton.proofs.AlphabetLaws.{inputs-fit, outputs-fit}
+use Rattle.automaton.proofs.OneAutomaton.{one-automaton, one-refused}
 use Rattle.game.specs.declared.answer.Answer.{Answer}
-use Rattle.game.specs.Answer.{verdictOf}
+use Rattle.game.specs.declared.answer.Answer.the-variants.{Refused}
+use Rattle.game.specs.declared.follow.Position.{Position}
+use Rattle.game.specs.declared.follow.Followed.{Followed}
+use Rattle.game.specs.Answer.{answerNumber, answerStates, verdictOf}
 use Rattle.game.specs.Arena.{Arena, arena}
-use Rattle.game.specs.Tables.{Verdict}
-use Rattle.game.specs.Given.{Solved}
-use Rattle.game.specs.Rule.{Buffers, ruleRefusal, Served, RuleSolved}
+use Rattle.game.specs.Strategy.{environmentByte, SystemWins, EnvironmentWins}
+use Rattle.game.specs.Tables.{noMove, SystemState, EnvironmentState, Tables, Verdict}
+use Rattle.game.specs.Given.{givenRefusal, GivenSolved}
+use Rattle.game.specs.Rule.{Buffers, ruleRefusal, RuleSolved}
+use Rattle.game.specs.Follower.{FollowedBy}
+use Rattle.game.specs.Agreement.{isNoMove, Free, TableAgrees, TablesAgree, TablesAfter, GivenAgree, RuleAgree}
+use Rattle.game.proofs.AnswerLaws.{verdict-states}
+use Rattle.game.proofs.GivenLaws.{passed}
 use Rattle.game.proofs.Determined.{one-winner}
 
+-- ---- one verdict, and tables that agree
+
 -- a state has one winner, by whatever tables
-pub one-verdict : (fair : Bool) (G : Arena) (σ τ σ′ τ′ : List ℕ) (s : ℕ) (c c′ : Bool) → Verdict fair G σ τ s c → Verdict fair G σ′ τ′ s c′ → c ≡ c′
+one-verdict : (fair : Bool) (G : Arena) (σ τ σ′ τ′ : List ℕ) (s : ℕ) (c c′ : Bool) → Verdict fair G σ τ s c → Verdict fair G σ′ τ′ s c′ → c ≡ c′
 one-verdict fair G σ τ σ′ τ′ s true true v w = refl
 one-verdict fair G σ τ σ′ τ′ s true false v w = absurd (one-winner fair G σ τ′ s (v .system refl .wins) (w .environment refl .wins))
 one-verdict fair G σ τ σ′ τ′ s false true v w = absurd (one-winner fair G σ′ τ s (w .system refl .wins) (v .environment refl .wins))
 one-verdict fair G σ τ σ′ τ′ s false false v w = refl
 
--- the call for a given automaton has one answer
-pub one-given : (refusal : Refusal) (fair : Bool) (start : ℕ) (G : Arena) (σ₀ τ₀ σ τ σ′ τ′ : List ℕ) (r r′ : Answer) → Solved refusal fair start G σ₀ τ₀ σ τ r → Solved refusal fair start G σ₀ τ₀ σ′ τ′ r′ → r ≡ r′
-one-given refusal fair start G σ₀ τ₀ σ τ σ′ τ′ r r′ x y =
-    ⊎-elim
-    (λ n.
-    let u = x .served n in
-    let v = y .served n in
-    u .1 ∙ ap (λ (c : Bool). verdictOf c (G .states)) (one-verdict fair G σ τ σ′ τ′ start (u .0) (v .0) (u .3) (v .3)) ∙ sym (v .1))
-    (λ n. x .refused (something refusal n) .0 ∙ sym (y .refused (something refusal n) .0))
-    (refused-or-served refusal)
+-- a byte is free and good in both runs, or it is the same
+abbrev FreeOrSame : (ℕ → Type 0) → List ℕ → List ℕ → ℕ → Type 0
+FreeOrSame free t t′ k = (free k × (getD t k 0 < noMove) × (getD t′ k 0 < noMove)) ⊎ (getD t k 0 ≡ getD t′ k 0)
+
+has-move : (t : List ℕ) (k : ℕ) → getD t k 0 < noMove → isNoMove t k ≡ false
+has-move t k b = ne-eqb (getD t k 0) noMove (λ e. let z : ⊥ = omega arith in z)
+
+table-agrees : (free : ℕ → Type 0) (t t′ : List ℕ) → length t ≡ length t′ → ((k : ℕ) → FreeOrSame free t t′ k) → TableAgrees free t t′
+table-agrees free t t′ l h =
+    record {
+      size = l;
+      rows = λ k. ⊎-elim (λ f. has-move t k (f .1) ∙ sym (has-move t′ k (f .2))) (λ e. ap (λ (b : ℕ). eqb b noMove) e) (h k);
+      bytes = λ k n. ⊎-elim (λ f. absurd (n (f .0))) (λ e. e) (h k);
+    }
+
+-- the free bytes are the winner's: of the tables that are handed out, the environment's has 255 exactly where the system wins
+module _ (fair : Bool) (G : Arena) (few-inputs : G .inputs ≤ noMove) (σ₀ τ₀ σ τ : List ℕ) (x : Tables fair G σ₀ τ₀ σ τ) (s : ℕ) where
+  pub system-free : Free (G .states) τ true s ↔ ((s < G .states) × SystemWins fair G σ s)
+  system-free = (
+    λ f. (f .0, ⊎-elim (λ w. w .wins) (λ w. let b = w .byte in clash (isNoMove τ s) (f .1) (has-move τ s (omega arith))) (x .won s (f .0))),
+    λ f. (f .0, ⊎-elim (λ w. eq-eqb (environmentByte τ s) noMove (w .other)) (λ w. absurd (one-winner fair G σ τ s (f .1) (w .wins))) (x .won s (f .0))),
+  )
+
+  pub environment-free : Free (G .states) τ false s ↔ ((s < G .states) × EnvironmentWins fair G τ s)
+  environment-free = (
+    λ f. (f .0, ⊎-elim (λ w. clash (isNoMove τ s) (eq-eqb (environmentByte τ s) noMove (w .other)) (f .1)) (λ w. w .wins) (x .won s (f .0))),
+    λ f. (f .0, ⊎-elim (λ w. absurd (one-winner fair G σ τ s (w .wins) (f .1))) (λ w. let b = w .byte in has-move τ s (omega arith)) (x .won s (f .0))),
+  )
+
+module _ (fair : Bool) (G : Arena) (few-inputs : G .inputs ≤ noMove) (few-outputs : G .outputs ≤ noMove) (some : 0 < G .inputs) (σ₀ τ₀ σ τ σ′ τ′ : List ℕ)
+    (x : Tables fair G σ₀ τ₀ σ τ) (y : Tables fair G σ₀ τ₀ σ′ τ′) where
+  -- a state below n has the same winner in both runs
+  same-winner : (s : ℕ) → s < G .states → (SystemState fair G σ τ s × SystemState fair G σ′ τ′ s) ⊎ (EnvironmentState fair G σ τ s × EnvironmentState fair G σ′ τ′ s)
+  same-winner s h =
+      ⊎-elim
+      (λ u. ⊎-elim (λ v. _⊎_.inl (u, v)) (λ v. absurd (one-winner fair G σ τ′ s (u .wins) (v .wins))) (y .won s h))
+      (λ u. ⊎-elim (λ v. absurd (one-winner fair G σ′ τ s (v .wins) (u .wins))) (λ v. _⊎_.inr (u, v)) (y .won s h))
+      (x .won s h)
+
+  system-byte : (s a : ℕ) → a < G .inputs → FreeOrSame (λ k. Free (G .states) τ true s) σ σ′ (s * G .inputs + a)
+  system-byte s a h =
+      on (ltb s (G .states))
+      (λ e.
+      let l = ltb-true s (G .states) e in
+      ⊎-elim
+      (λ w. let p = w .0 .bytes a h in let q = w .1 .bytes a h in _⊎_.inl ((l, eq-eqb (environmentByte τ s) noMove (w .0 .other)), omega arith, omega arith))
+      (λ w. _⊎_.inr (w .0 .other a h ∙ sym (w .1 .other a h)))
+      (same-winner s l))
+      (λ e. _⊎_.inr (on (ltb s stateLimit)
+      (λ f. x .system-rest s a (ltb-false s (G .states) e) (ltb-true s stateLimit f) h ∙ sym (y .system-rest s a (ltb-false s (G .states) e) (ltb-true s stateLimit f) h))
+      (λ f.
+      let m : stateLimit * G .inputs ≤ s * G .inputs + a = omega (arith, mul-le-mul-right (G .inputs) (ltb-false s stateLimit f)) in
+      x .system-beyond (s * G .inputs + a) m ∙ sym (y .system-beyond (s * G .inputs + a) m))))
+
+  environment-byte : (s : ℕ) → FreeOrSame (Free (G .states) τ false) τ τ′ s
+  environment-byte s =
+      on (ltb s (G .states))
+      (λ e.
+      let l = ltb-true s (G .states) e in
+      ⊎-elim
+      (λ w. _⊎_.inr (w .0 .other ∙ sym (w .1 .other)))
+      (λ w. let p = w .0 .byte in let q = w .1 .byte in _⊎_.inl ((l, has-move τ s (omega arith)), omega arith, omega arith))
+      (same-winner s l))
+      (λ e. _⊎_.inr (on (ltb s stateLimit)
+      (λ f. x .environment-rest s (ltb-false s (G .states) e) (ltb-true s stateLimit f) ∙ sym (y .environment-rest s (ltb-false s (G .states) e) (ltb-true s stateLimit f)))
+      (λ f. x .environment-beyond s (ltb-false s stateLimit f) ∙ sym (y .environment-beyond s (ltb-false s stateLimit f)))))
+
+  -- tables of one arena, in buffers that held the same, agree
+  tables-agree : TablesAgree (G .states) (G .inputs) σ τ σ′ τ′
+  tables-agree =
+      record {
+        system = table-agrees (λ k. Free (G .states) τ true (k / G .inputs)) σ σ′ (x .system-size ∙ sym (y .system-size))
+            (λ k. subst (λ (j : ℕ). FreeOrSame (λ b. Free (G .states) τ true (k / G .inputs)) σ σ′ j) (div-add-mod' k (G .inputs))
+            (system-byte (k / G .inputs) (k % G .inputs) (mod-lt k some)));
+        environment = table-agrees (Free (G .states) τ false) τ τ′ (x .environment-size ∙ sym (y .environment-size)) environment-byte;
+      }
+
+-- tables that are the same agree
+tables-same : (n inputs : ℕ) (σ τ σ′ τ′ : List ℕ) → σ ≡ σ′ → τ ≡ τ′ → TablesAgree n inputs σ τ σ′ τ′
+tables-same n inputs σ τ σ′ τ′ e f =
+    record {
+      system = subst (λ (t : List ℕ). TableAgrees (λ k. Free n τ true (k / inputs)) σ t) e (record { size = refl; rows = λ k. refl; bytes = λ k z. refl });
+      environment = subst (λ (t : List ℕ). TableAgrees (Free n τ false) τ t) f (record { size = refl; rows = λ k. refl; bytes = λ k z. refl });
+    }
+
+-- after a verdict, and after a refusal
+after-verdict : (number n inputs : ℕ) (σ τ σ′ τ′ : List ℕ) → number ≡ 0 → TablesAgree n inputs σ τ σ′ τ′ → TablesAfter number n inputs σ τ σ′ τ′
+after-verdict number n inputs σ τ σ′ τ′ e h = record { served = λ z. h; refused = λ z. absurd (z e) }
+
+after-refusal : (number n inputs : ℕ) (σ τ σ′ τ′ : List ℕ) → σ ≡ σ′ → τ ≡ τ′ → TablesAfter number n inputs σ τ σ′ τ′
+after-refusal number n inputs σ τ σ′ τ′ e f = record { served = λ z. tables-same n inputs σ τ σ′ τ′ e f; refused = λ z. (e, f) }
+
+-- ---- the follower
+
+-- two runs of the follower say the same
+pub one-follow : {i o : ℕ} {G : Arena} {σ : List ℕ} {p : Position} {x : ℕ} {r r′ : Followed} → FollowedBy i o G σ p x r → FollowedBy i o G σ p x r′ → r ≡ r′
+one-follow u v = u .answer ∙ sym (v .answer)
+
+-- ---- the call for a given automaton
+
+module _ {fair : Bool} (i o : ℕ) {start n : ℕ} {transitions accepting : List ℕ} {mask : ℕ} {σ₀ τ₀ σ τ σ′ τ′ : List ℕ} {r r′ : Answer}
+    (x : GivenSolved fair i o start (arena i o n transitions accepting mask) σ₀ τ₀ σ τ r) (y : GivenSolved fair i o start (arena i o n transitions accepting mask) σ₀ τ₀ σ′ τ′ r′) where
+  abbrev given-first : Refusal
+  given-first = givenRefusal i o start (arena i o n transitions accepting mask) σ₀ τ₀
+
+  given-served : given-first ≡ Nothing → GivenAgree n (2 ^ i) σ τ σ′ τ′ r r′
+  unfolding givenRefusal
+  given-served z =
+      let G = arena i o n transitions accepting mask in
+      let u = x .served z in
+      let v = y .served z in
+      let a = passed (badAlphabet i o) Alphabet _ (omega arith) z .0 in
+      let few : 2 ^ i ≤ 16 = pow-mono {j = 4} (inputs-fit i o a) in
+      let few′ : 2 ^ o ≤ 16 = pow-mono {j = 4} (outputs-fit i o a) in
+      record {
+        answer = u .1 ∙ ap (λ (c : Bool). verdictOf c n) (one-verdict fair G σ τ σ′ τ′ start (u .0) (v .0) (u .3) (v .3)) ∙ sym (v .1);
+        tables = after-verdict _ n (2 ^ i) σ τ σ′ τ′ (x .number ∙ ap numberOf z)
+            (tables-agree fair G (omega arith) (omega arith) (pow-pos i) σ₀ τ₀ σ τ σ′ τ′ (u .2) (v .2));
+      }
+
+  given-refused : (given-first ≡ Nothing → ⊥) → GivenAgree n (2 ^ i) σ τ σ′ τ′ r r′
+  given-refused z =
+      let u = x .refused z in
+      let v = y .refused z in
+      record {
+        answer = u .0 ∙ sym (v .0);
+        tables = after-refusal _ n (2 ^ i) σ τ σ′ τ′ (u .1 ∙ sym (v .1)) (u .2 ∙ sym (v .2));
+      }
+
+  given-agrees : GivenAgree n (2 ^ i) σ τ σ′ τ′ r r′
+  given-agrees = ⊎-elim given-served (λ z. given-refused (something given-first z)) (refused-or-served given-first)
+
+-- two runs of the call for a given automaton agree
+pub one-given : {fair : Bool} (i o : ℕ) {start n : ℕ} {transitions accepting : List ℕ} {mask : ℕ} {σ₀ τ₀ σ τ σ′ τ′ : List ℕ} {r r′ : Answer}
+    → GivenSolved fair i o start (arena i o n transitions accepting mask) σ₀ τ₀ σ τ r → GivenSolved fair i o start (arena i o n transitions accepting mask) σ₀ τ₀ σ′ τ′ r′
+    → GivenAgree n (2 ^ i) σ τ σ′ τ′ r r′
+one-given i o x y = given-agrees i o x y
+
+-- ---- the rule call
 
 -- where a rule is not good, its number of states does not matter; where it is, it has one
 one-refusal : (i o : ℕ) (rule condition : List ℕ) (old : Buffers) (ρ κ : Reading) (n m : ℕ) → ReadingOf i (ruleKind i o) rule ρ → CountOf i o rule n → CountOf i o rule m
@@ -59,67 +204,86 @@ one-refusal i o rule condition old (Bad k) κ n m r c d = refl
 one-refusal i o rule condition old TooManyNodes κ n m r c d = refl
 one-refusal i o rule condition old TooManyOperators κ n m r c d = refl
 
-module _ (fair : Bool) (i o : ℕ) (rule condition : List ℕ) (old new new′ : Buffers) where
-  -- two served calls, moved to one number of states, one formula and one condition
-  abbrev letters : ℕ
-  letters = letterCount i o
+module _ {fair : Bool} {i o : ℕ} {rule condition : List ℕ} {old new new′ : Buffers} {r r′ : Answer}
+    (x : RuleSolved fair i o rule condition old new r) (y : RuleSolved fair i o rule condition old new′ r′) where
+  same-refusal : x .refusal ≡ y .refusal
+  same-refusal =
+      let ρ = one-reading i o true rule (x .read) (y .read) in
+      let κ = one-reading i 0 false condition (x .condition-read) (y .condition-read) in
+      x .first
+      ∙ ap₂ (λ (p q : Reading). ruleRefusal i o rule condition old p q (x .states)) ρ κ
+      ∙ one-refusal i o rule condition old (y .reading) (y .condition-reading) (x .states) (y .states) (y .read) (x .counted) (y .counted)
+      ∙ sym (y .first)
 
-  abbrev Held : Buffers → ℕ → Formula → Formula → Bool → Type 0
-  Held b n φ κ can =
-      Automaton φ letters n (b .transitions) (b .accepting)
-      × Cleared (n * letters) (stateLimit * letters) (old .transitions) (b .transitions)
-      × Cleared n stateLimit (old .accepting) (b .accepting)
-      × Verdict fair (arena i o n (b .transitions) (b .accepting) (maskOf κ i)) (b .system) (b .environment) 0 can
+  -- the automaton's two buffers, served or refused
+  same-automaton : (new .transitions ≡ new′ .transitions) × (new .accepting ≡ new′ .accepting)
+  same-automaton =
+      ⊎-elim
+      (λ n.
+      let u = x .served n .2 in
+      let v = y .served (sym same-refusal ∙ n) .2 in
+      one-automaton (letterCount i o) (pow-pos (i + o)) (u .formula) (v .formula) (one-formula i o true rule (u .good .reads) (v .good .reads))
+      (x .states) (y .states) (x .counted (u .formula) (u .good) ∙ sym (y .counted (u .formula) (u .good))) _ _ _ _ _ _
+      (u .automaton, u .transitions-rest, u .accepting-rest) (v .automaton, v .transitions-rest, v .accepting-rest))
+      (λ n.
+      let e = something (x .refusal) n in
+      one-refused i o rule (x .refusal) (y .refusal) same-refusal _ _ _ _ _ _ (x .over, x .untouched e) (y .over, y .untouched (λ z. e (same-refusal ∙ z))))
+      (refused-or-served (x .refusal))
 
-  held : (b : Buffers) (n : ℕ) (can : Bool) (s : Served fair i o rule condition old b n can) → Held b n (s .formula) (s .assumption) can
-  held b n can s = (s .automaton, s .transitions-rest, s .accepting-rest, s .verdict)
+  -- the arena of the first run's automaton
+  abbrev of : ℕ → Formula → Arena
+  of n κ = arena i o n (new .transitions) (new .accepting) (maskOf κ i)
 
-  moved : (n m : ℕ) → n ≡ m → (φ ψ κ χ : Formula) → φ ≡ ψ → κ ≡ χ → (can : Bool) → Held new′ n φ κ can → Held new′ m ψ χ can
-  moved n m e φ ψ κ χ f g can h =
-      subst (λ (k : ℕ). Held new′ k ψ χ can) e (subst (λ (p : Formula). Held new′ n p χ can) f (subst (λ (q : Formula). Held new′ n φ q can) g h))
+  -- tables and verdict of a run
+  abbrev Played : Buffers → Bool → Arena → Type 0
+  Played b can G = Tables fair G (old .system) (old .environment) (b .system) (b .environment) × Verdict fair G (b .system) (b .environment) 0 can
 
-  one-held : (n : ℕ) (φ κ : Formula) (c c′ : Bool) → Held new n φ κ c → Held new′ n φ κ c′ → (new .transitions ≡ new′ .transitions) × (new .accepting ≡ new′ .accepting) × (c ≡ c′)
-  one-held n φ κ c c′ x y =
-      let pos : 0 < letters = pow-pos (i + o) in
-      let t = one-transitions φ letters n pos (new .transitions) (new .accepting) (new′ .transitions) (new′ .accepting) (x .0) (y .0) (stateLimit * letters) (old .transitions) (x .1) (y .1) in
-      let a = one-accepting φ letters n pos (new .transitions) (new .accepting) (new′ .transitions) (new′ .accepting) (x .0) (y .0) stateLimit (old .accepting) (x .2) (y .2) in
-      let v : Verdict fair (arena i o n (new .transitions) (new .accepting) (maskOf κ i)) (new′ .system) (new′ .environment) 0 c′ =
-      subst (λ (u : List ℕ). Verdict fair (arena i o n u (new .accepting) (maskOf κ i)) (new′ .system) (new′ .environment) 0 c′) (sym t)
-      (subst (λ (u : List ℕ). Verdict fair (arena i o n (new′ .transitions) u (maskOf κ i)) (new′ .system) (new′ .environment) 0 c′) (sym a) (y .3)) in
-      (t, a, one-verdict fair (arena i o n (new .transitions) (new .accepting) (maskOf κ i)) (new .system) (new .environment) (new′ .system) (new′ .environment) 0 c c′ (x .3) v)
+  -- the second run's, on the first run's arena
+  moved : (n m : ℕ) → m ≡ n → (κ χ : Formula) → χ ≡ κ → (can : Bool)
+      → Played new′ can (arena i o m (new′ .transitions) (new′ .accepting) (maskOf χ i)) → Played new′ can (of n κ)
+  moved n m e κ χ f can p =
+      let g : arena i o m (new′ .transitions) (new′ .accepting) (maskOf χ i) ≡ of n κ = rw (e, f, same-automaton .0, same-automaton .1) refl in
+      subst (Played new′ can) g p
 
-  module _ (r r′ : Answer) (x : RuleSolved fair i o rule condition old new r) (y : RuleSolved fair i o rule condition old new′ r′) where
-    same-refusal : x .refusal ≡ y .refusal
-    same-refusal =
-        let ρ = one-reading i o true rule (x .read) (y .read) in
-        let κ = one-reading i 0 false condition (x .condition-read) (y .condition-read) in
-        x .first
-        ∙ ap₂ (λ (p q : Reading). ruleRefusal i o rule condition old p q (x .states)) ρ κ
-        ∙ one-refusal i o rule condition old (y .reading) (y .condition-reading) (x .states) (y .states) (y .read) (x .counted) (y .counted)
-        ∙ sym (y .first)
+  -- the same answer, and the tables after it
+  abbrev Outcome : Type 0
+  Outcome = (r ≡ r′) × TablesAfter (answerNumber r) (answerStates r) (2 ^ i) (new .system) (new .environment) (new′ .system) (new′ .environment)
 
-    -- of two served calls the verdict, n and the first two buffers agree
-    same-served : x .refusal ≡ Nothing → (r ≡ r′) × (new .transitions ≡ new′ .transitions) × (new .accepting ≡ new′ .accepting)
-    same-served n =
-        let u = x .served n in
-        let v = y .served (sym same-refusal ∙ n) in
-        let s = u .2 in
-        let t = v .2 in
-        let φ = one-formula i o true rule (t .good .reads) (s .good .reads) in
-        let κ = one-formula i 0 false condition (t .assumed .reads) (s .assumed .reads) in
-        let m : y .states ≡ x .states = y .counted (s .formula) (s .good) ∙ sym (x .counted (s .formula) (s .good)) in
-        let w = one-held (x .states) (s .formula) (s .assumption) (u .0) (v .0) (held-new (u .0) s) (moved (y .states) (x .states) m (t .formula) (s .formula) (t .assumption) (s .assumption) φ κ (v .0) (held new′ (y .states) (v .0) t)) in
-        (u .1 ∙ ap₂ verdictOf (w .2) (sym m) ∙ sym (v .1), w .0, w .1)
-      where
-        held-new : (can : Bool) (s : Served fair i o rule condition old new (x .states) can) → Held new (x .states) (s .formula) (s .assumption) can
-        held-new can s = held new (x .states) can s
+  rule-served : x .refusal ≡ Nothing → Outcome
+  unfolding ruleRefusal
+  rule-served z =
+      let u = x .served z in
+      let v = y .served (sym same-refusal ∙ z) in
+      let s = u .2 in
+      let t = v .2 in
+      let κ = one-formula i 0 false condition (t .assumed .reads) (s .assumed .reads) in
+      let m : y .states ≡ x .states = y .counted (s .formula) (s .good) ∙ sym (x .counted (s .formula) (s .good)) in
+      let w = moved (x .states) (y .states) m (s .assumption) (t .assumption) κ (v .0) (t .tables, t .verdict) in
+      let a = passed (badAlphabet i o) Alphabet _ (omega arith) (sym (x .first) ∙ z) .0 in
+      let few : 2 ^ i ≤ 16 = pow-mono {j = 4} (inputs-fit i o a) in
+      let few′ : 2 ^ o ≤ 16 = pow-mono {j = 4} (outputs-fit i o a) in
+      let G = of (x .states) (s .assumption) in (
+        u .1 ∙ ap₂ verdictOf (one-verdict fair G _ _ _ _ 0 (u .0) (v .0) (s .verdict) (w .1)) (sym m) ∙ sym (v .1),
+        after-verdict _ _ (2 ^ i) _ _ _ _ (x .number ∙ ap numberOf z)
+            (subst (λ (n : ℕ). TablesAgree n (2 ^ i) (new .system) (new .environment) (new′ .system) (new′ .environment))
+            (sym (ap answerStates (u .1) ∙ verdict-states (u .0) (x .states)))
+            (tables-agree fair G (omega arith) (omega arith) (pow-pos i) _ _ _ _ _ _ (s .tables) (w .0))),
+      )
 
-    -- the rule call has one answer
-    pub one-rule : r ≡ r′
-    one-rule =
-        ⊎-elim
-        (λ n. same-served n .0)
-        (λ n.
-        let e = something (x .refusal) n in
-        x .refused e .0 ∙ ap Rattle.game.specs.declared.answer.Answer.the-variants.Refused same-refusal ∙ sym (y .refused (λ z. e (same-refusal ∙ z)) .0))
-        (refused-or-served (x .refusal))
+  rule-refused : (x .refusal ≡ Nothing → ⊥) → Outcome
+  rule-refused z =
+      let u = x .refused z in
+      let v = y .refused (λ e. z (same-refusal ∙ e)) in (
+        u .0 ∙ ap Refused same-refusal ∙ sym (v .0),
+        after-refusal _ _ (2 ^ i) _ _ _ _ (u .1 ∙ sym (v .1)) (u .2 ∙ sym (v .2)),
+      )
+
+  rule-agrees : RuleAgree (2 ^ i) new new′ r r′
+  rule-agrees =
+      let w = ⊎-elim rule-served (λ n. rule-refused (something (x .refusal) n)) (refused-or-served (x .refusal)) in
+      record { answer = w .0; transitions = same-automaton .0; accepting = same-automaton .1; tables = w .1 }
+
+-- two runs of the rule call agree
+pub one-rule : {fair : Bool} {i o : ℕ} {rule condition : List ℕ} {old new new′ : Buffers} {r r′ : Answer}
+    → RuleSolved fair i o rule condition old new r → RuleSolved fair i o rule condition old new′ r′ → RuleAgree (2 ^ i) new new′ r r′
+one-rule x y = rule-agrees x y

@@ -21,3 +21,9 @@ answerPlace (Refused x) = placeOf x
 -- the verdict of a served call on n states
 abbrev pub verdictOf : Bool → ℕ → Answer
 verdictOf can n = cond can (Can n) (Cannot n)
+
+-- the number of states of a verdict, and 0 for a refusal
+abbrev pub answerStates : Answer → ℕ
+answerStates (Can n) = n
+answerStates (Cannot n) = n
+answerStates (Refused x) = 0

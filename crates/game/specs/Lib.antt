@@ -13,4 +13,5 @@ pub mod Given
 pub mod Follower
 pub mod Rule
 pub mod EndlessAnswer
+pub mod Agreement
 pub mod RuleChecks

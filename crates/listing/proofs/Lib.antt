@@ -9,3 +9,4 @@ pub mod LengthLaws
 pub mod BoundLaws
 pub mod ResponseLaws
 pub mod ExampleLaws
+pub mod OneAnswer

@@ -20,11 +20,12 @@ use Rattle.automaton.specs.Alphabet.{badAlphabet}
 use Rattle.automaton.specs.Limits.{stateLimit}
 use Rattle.game.specs.declared.answer.Answer.{Answer}
 use Rattle.game.specs.declared.answer.Answer.the-variants.{Can, Cannot, Refused}
-use Rattle.game.specs.Answer.{verdictOf}
+use Rattle.game.specs.Answer.{answerStates}
 use Rattle.game.specs.Rule.{Buffers, buffers, shortBuffers, ruleRefusal, RuleSolved}
+use Rattle.game.proofs.AnswerLaws.{verdict-states}
 use Rattle.listing.specs.Listing.{listing, malformed}
-use Rattle.listing.specs.Promise.{Lent, Listed}
-use Rattle.listing.specs.Rendering.{statesOf, listingOf}
+use Rattle.listing.specs.Promise.{lent, Listed}
+use Rattle.listing.specs.Rendering.{listingOf}
 use Rattle.listing.specs.Scan.{isRequest, isFairLine, lineEnd, conditionStart, conditionPart, rulePart, digitAt}
 use Rattle.listing.specs.Writing.{written, Writes}
 use Rattle.listing.proofs.FillingLaws.{written-filled, position-least}
@@ -69,22 +70,18 @@ served-states i o rule condition old ρ κ n e =
     (λ t. absurd (over-refused (badAlphabet i o) (tooLong rule || tooLong condition) (shortBuffers i o old) ρ κ (rw t at e)))
     (λ f. ltb-false stateLimit n f)
 
-verdict-states : (can : Bool) (n : ℕ) → statesOf (verdictOf can n) ≡ n
-verdict-states true n = refl
-verdict-states false n = refl
-
 -- an answer has at most 128 states
-pub solved-states : {fair : Bool} {i o : ℕ} {rule condition : List ℕ} {old new : Buffers} {r : Answer} → RuleSolved fair i o rule condition old new r → statesOf r ≤ 128
+pub solved-states : {fair : Bool} {i o : ℕ} {rule condition : List ℕ} {old new : Buffers} {r : Answer} → RuleSolved fair i o rule condition old new r → answerStates r ≤ 128
 solved-states {fair} {i} {o} {rule} {condition} {old} {new} {r} m =
     on (eqb (numberOf (m .refusal)) 0)
     (λ t.
     let z : numberOf (m .refusal) ≡ 0 = eqb-true (numberOf (m .refusal)) 0 t in
     let v = m .served (no-number (m .refusal) z) in
-    let e : statesOf r ≡ m .states = ap statesOf (v .1) ∙ verdict-states (v .0) (m .states) in
+    let e : answerStates r ≡ m .states = ap answerStates (v .1) ∙ verdict-states (v .0) (m .states) in
     let h = served-states i o rule condition old (m .reading) (m .condition-reading) (m .states) (ap numberOf (sym (m .first)) ∙ z) in
     subst (λ (k : ℕ). k ≤ 128) (sym e) h)
     (λ f.
-    let e : statesOf r ≡ 0 = ap statesOf (m .refused (λ n. eqb-false (numberOf (m .refusal)) 0 f (ap numberOf n)) .0) in
+    let e : answerStates r ≡ 0 = ap answerStates (m .refused (λ n. eqb-false (numberOf (m .refusal)) 0 f (ap numberOf n)) .0) in
     subst (λ (k : ℕ). k ≤ 128) (sym e) (omega arith))
 
 -- the transitions are not listed
@@ -111,7 +108,7 @@ listed-refused input out out′ r e w =
     }
 
 module _ (s : List ℕ) (ok : isRequest s ≡ true) where
-  pub listed-answer : (old : Buffers) (t a σ τ : List ℕ) (x : Answer) (out out′ : List ℕ) (r : ℕ) → Lent old
+  pub listed-answer : (old : Buffers) (t a σ τ : List ℕ) (x : Answer) (out out′ : List ℕ) (r : ℕ) → old ≡ lent
       → RuleSolved (isFairLine s) (digitAt s 0) (digitAt s 2) (rulePart s (conditionStart s)) (conditionPart s (conditionStart s)) old (buffers t a σ τ) x
       → Writes out 0 (listingOf (digitAt s 0) a σ τ x) out′ r → Listed s out out′ r
   listed-answer old t a σ τ x out out′ r l m w =
@@ -126,7 +123,7 @@ module _ (s : List ℕ) (ok : isRequest s ≡ true) where
           condition = conditionPart s (conditionStart s);
           rule = rulePart s (conditionStart s);
           asks = request-asks s ok;
-          answers = record { old = old; lent = l; new = buffers t a σ τ; answer = x; solved = m; listed = listing-same (digitAt s 0) t a σ τ x };
+          answers = record { new = buffers t a σ τ; answer = x; solved = rw (← l) m; listed = listing-same (digitAt s 0) t a σ τ x };
         });
         written = v .0;
         count = v .1;

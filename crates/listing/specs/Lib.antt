@@ -2,6 +2,7 @@ pub mod Decimal
 pub mod Input
 pub mod Listing
 pub mod Promise
+pub mod Agreement
 pub mod Writing
 pub mod Scan
 pub mod Rendering

@@ -6,26 +6,21 @@ use mathlib.Core.Path.{_≡_}
 use mathlib.Core.Bool.{Bool}
 use mathlib.Core.List.{List, _++_}
 use mathlib.Core.Logic.{_⊎_}
-use lib.ListN.{length, take, drop}
+use lib.ListN.{length, take, drop, replicate}
 use Rattle.game.specs.declared.answer.Answer.{Answer}
-use Rattle.game.specs.Rule.{Buffers, RuleSolved}
+use Rattle.game.specs.Rule.{Buffers, buffers, RuleSolved}
 use Rattle.listing.specs.Input.{inputLimit, Asks}
 use Rattle.listing.specs.Listing.{listing, malformed}
 
--- buffers of the size that four inputs and four outputs need
-pub record Lent (lent : Buffers) : Type 0 where
-  pub transitions : length (lent .transitions) ≡ 32768
-  pub accepting : length (lent .accepting) ≡ 128
-  pub system : length (lent .system) ≡ 2048
-  pub environment : length (lent .environment) ≡ 128
+-- the buffers that are lent: zeros, of the size that four inputs and four outputs need
+unfoldable pub lent : Buffers
+lent = buffers (replicate {A = ℕ} 32768 0) (replicate {A = ℕ} 128 0) (replicate {A = ℕ} 2048 0) (replicate {A = ℕ} 128 0)
 
 -- the text is the listing of what the rule call answers on a request
 pub record Answers (i o : ℕ) (fair : Bool) (condition rule text : List ℕ) : Type 0 where
-  pub old : Buffers
-  pub lent : Lent old
   pub new : Buffers
   pub answer : Answer
-  pub solved : RuleSolved fair i o rule condition old new answer
+  pub solved : RuleSolved fair i o rule condition lent new answer
   pub listed : text ≡ listing i new answer
 
 -- the input is a request, and the text answers it

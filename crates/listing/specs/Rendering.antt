@@ -1,16 +1,10 @@
--- The number of states of an answer, and the listing over the three buffers that it reads. No promise of a call that 01 names rests on this file.
+-- The listing over the three buffers that it reads. No promise of a call that 01 names rests on this file.
 -- Assumes nothing.
 use Prim.Native.Nat.{ℕ}
 use mathlib.Core.List.{List, []}
 use Rattle.game.specs.declared.answer.Answer.{Answer}
-use Rattle.game.specs.declared.answer.Answer.the-variants.{Can, Cannot, Refused}
 use Rattle.game.specs.Rule.{buffers}
 use Rattle.listing.specs.Listing.{listing}
-
-abbrev pub statesOf : Answer → ℕ
-statesOf (Can n) = n
-statesOf (Cannot n) = n
-statesOf (Refused x) = 0
 
 abbrev pub listingOf : ℕ → List ℕ → List ℕ → List ℕ → Answer → List ℕ
 listingOf i accepting system environment r = listing i (buffers [] accepting system environment) r

@@ -2,7 +2,7 @@
 ghost use mathlib.Core.Path.{_≡_};
 ghost use mathlib.Core.Bool.{true};
 ghost use Rattle.game.specs.Rule.{buffers, RuleSolved};
-ghost use Rattle.listing.specs.Promise.{Lent, Listed};
+ghost use Rattle.listing.specs.Promise.{lent, Listed};
 ghost use Rattle.listing.specs.Scan.{isRequest, isFairLine, digitAt, conditionStart, conditionPart, rulePart};
 use crate::input::condition_start;
 use crate::input::digit_at;
@@ -45,7 +45,7 @@ fn ask(
     )
 }
 
-// Writes what the program prints for an input, with the four buffers of the rule call lent.
+// Writes what the program prints for an input, with the four buffers of the rule call lent, all zeros.
 fn list_with(
     input: &[u8],
     output: &mut [u8],
@@ -54,7 +54,7 @@ fn list_with(
     system: &mut [u8],
     environment: &mut [u8],
 ) -> usize
-    requires { ⌜ Lent (buffers (now transitions) (now accepting) (now system) (now environment)) ⌝ }
+    requires { ⌜ buffers (now transitions) (now accepting) (now system) (now environment) ≡ lent ⌝ }
     ensures { λ r. ⌜ Listed (now (input .entry)) (now (output .entry)) (now (output .exit)) r ⌝ }
 {
     if !is_request(input) {

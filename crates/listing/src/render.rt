@@ -3,10 +3,11 @@ ghost use mathlib.Core.Path.{_≡_};
 ghost use mathlib.Core.List.{[], _∷_};
 ghost use Prim.Native.Nat.{_+_, _^_, _≤_, _<_};
 ghost use lib.ListN.{getD};
+ghost use Rattle.game.specs.Answer.{answerStates};
 ghost use Rattle.listing.specs.Decimal.{decimal};
 ghost use Rattle.listing.specs.Input.{blank};
 ghost use Rattle.listing.specs.Listing.{fields, goalMark, winnerFields, stateLine, stateLines, refusalLine, verdictLines};
-ghost use Rattle.listing.specs.Rendering.{statesOf, listingOf};
+ghost use Rattle.listing.specs.Rendering.{listingOf};
 ghost use Rattle.listing.specs.Writing.{Writes};
 use crate::write::put;
 use crate::write::put_decimal;
@@ -164,7 +165,7 @@ pub(crate) fn put_listing(
     system: &[u8],
     environment: &[u8],
 ) -> usize
-    requires { ⌜ (i ≤ 9) × (statesOf answer ≤ 128) ⌝ }
+    requires { ⌜ (i ≤ 9) × (answerStates answer ≤ 128) ⌝ }
     ensures { λ r. ⌜ Writes (now (out .entry)) 0 (listingOf i (now (accepting .entry)) (now (system .entry)) (now (environment .entry)) answer) (now (out .exit)) r ⌝ }
 {
     match answer {

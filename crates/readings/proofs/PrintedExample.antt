@@ -30,7 +30,7 @@ use Rattle.game.proofs.Determined.{one-winner}
 use Rattle.listing.specs.Decimal.{digits, decimal}
 use Rattle.listing.specs.Input.{Line, Asks}
 use Rattle.listing.specs.Listing.{stateLines, verdictLines, listing}
-use Rattle.listing.specs.Promise.{Answers, Prints, Listed}
+use Rattle.listing.specs.Promise.{lent, Answers, Prints, Listed}
 use Rattle.listing.proofs.RequestLaws.{one-request}
 use Rattle.readings.specs.Lists.{listOf, transitionsOf, flagsOf}
 use Rattle.readings.specs.Reading.{Row, rowOf, arenaFor}
@@ -142,14 +142,18 @@ module _ (old new : Buffers) (h : Held example φ κ old new false) where
         system-line a σ τ 2 (flag 2 (omega arith)) (goal-won .other) (output-0 0 (omega arith)) (output-0 1 (omega arith)),
       ) refl
 
+-- the buffers that are lent are long enough
+long-enough : shortBuffers 1 0 lent ≡ false
+unfolding lent
+long-enough = refl
+
 -- the listing of every answer that the rule call may give
 answers-listing : (text : List ℕ) → Answers 1 0 true (49 ∷ []) (70 ∷ 97 ∷ []) text → text ≡ exampleListing
 answers-listing text q =
-    let long : shortBuffers 1 0 (q .old) ≡ false = rw (q .lent .transitions, q .lent .accepting, q .lent .system, q .lent .environment) refl in
     let e = reading-formulas example never passed in
-    let w = answered example (reading example never passed) (q .old) (q .new) (q .answer) long (q .solved) in
-    let h : Held example φ κ (q .old) (q .new) false = subst₂ (λ (f k : Formula). Held example f k (q .old) (q .new) false) (e .0) (e .1) (w .1) in
-    q .listed ∙ ap (λ (x : Answer). listing 1 (q .new) x) (w .0) ∙ lines (q .old) (q .new) h
+    let w = answered example (reading example never passed) lent (q .new) (q .answer) long-enough (q .solved) in
+    let h : Held example φ κ lent (q .new) false = subst₂ (λ (f k : Formula). Held example f k lent (q .new) false) (e .0) (e .1) (w .1) in
+    q .listed ∙ ap (λ (x : Answer). listing 1 (q .new) x) (w .0) ∙ lines lent (q .new) h
 
 -- the four lines are a request
 asks : Asks exampleInput 1 0 true (49 ∷ []) (70 ∷ 97 ∷ [])

@@ -4,7 +4,7 @@ use Prim.Native.Nat.{_≤_}
 use mathlib.Core.Path.{subst}
 use denote.Ref.{now}
 use Rattle.game.specs.declared.answer.Answer.{Answer}
-use Rattle.listing.specs.Rendering.{statesOf}
+use Rattle.game.specs.Answer.{answerStates}
 use Rattle.listing.proofs.RenderingLaws.{can-listed, cannot-listed, refused-listed}
 use borrow.Author.Needs.{needs}
 use Rattle.listing.proofs.render.put_listing.Statement.{statement}
@@ -17,7 +17,7 @@ put-listing-spec =
     (λ c. search needs)
     (λ c. search needs)
     (λ c κs. search needs)
-    (λ c κs. (subst (λ (x : Answer). statesOf x ≤ 128) (c .before .before .before .before .answer .given .1) (c .before .before .before .before .before .before .before .before .before .before .pre .1), c .input-count .ensures .1))
+    (λ c κs. (subst (λ (x : Answer). answerStates x ≤ 128) (c .before .before .before .before .answer .given .1) (c .before .before .before .before .before .before .before .before .before .before .pre .1), c .input-count .ensures .1))
     (λ c. search needs)
     (λ c.
     let z = c .before .before .before .before .before .before .before .before .before .before .before .before .before .args in
@@ -25,7 +25,7 @@ put-listing-spec =
     (λ c. search needs)
     (λ c. search needs)
     (λ c κs. search needs)
-    (λ c κs. (subst (λ (x : Answer). statesOf x ≤ 128) (c .before .before .before .before .answer2 .given .1) (c .before .before .before .before .before .before .before .before .before .before .pre .1), c .input-count2 .ensures .1))
+    (λ c κs. (subst (λ (x : Answer). answerStates x ≤ 128) (c .before .before .before .before .answer2 .given .1) (c .before .before .before .before .before .before .before .before .before .before .pre .1), c .input-count2 .ensures .1))
     (λ c. search needs)
     (λ c.
     let z = c .before .before .before .before .before .before .before .before .before .before .before .before .before .args in

@@ -1,0 +1,79 @@
+-- The calls from C have one outcome: two runs on one input, with the same in the buffers before, for which the call's promise holds agree as specs/Agreement.antt
+-- says. Each rests on the library call's theorem.
+-- Assumes nothing.
+use Prim.Native.Nat.{ℕ, _^_}
+use mathlib.Core.Path.{_≡_, sym, ap, _∙_, subst, subst₂}
+use mathlib.Core.Bool.{Bool}
+use mathlib.Core.List.{List}
+use Rattle.automaton.specs.Trial.{trialNumber, trialPlace}
+use Rattle.automaton.proofs.OneAnswer.{one-trial}
+use Rattle.game.specs.declared.follow.Followed.{Followed}
+use Rattle.game.specs.Answer.{answerNumber, answerPlace, answerStates}
+use Rattle.game.specs.Arena.{arena}
+use Rattle.game.specs.Rule.{Buffers}
+use Rattle.game.specs.Agreement.{TablesAfter}
+use Rattle.game.proofs.OneAnswer.{one-rule, one-given}
+use Rattle.capi.specs.Verdict.{canFlag, RuleWritten, GivenWritten}
+use Rattle.capi.specs.Step.{StepWritten}
+use Rattle.capi.specs.Trial.{satisfiedFlag, TrialWritten}
+use Rattle.capi.specs.Agreement.{RuleWrittenAgree, GivenWrittenAgree, StepWrittenAgree, TrialWrittenAgree}
+
+-- a number of an answer that is the same is the same
+numbers : {A : Type 0} {a b : A} {k m : ℕ} (f : A → ℕ) → a ≡ b → k ≡ f a → m ≡ f b → k ≡ m
+numbers f e p q = p ∙ ap f e ∙ sym q
+
+-- two runs of `airtable_solve_rule` agree
+pub one-solve-rule : {fair : Bool} (i : ℕ) {o : ℕ} {rule condition : List ℕ} {old new new′ : Buffers} {number can n place number′ can′ n′ place′ : ℕ}
+    → RuleWritten fair i o rule condition old new number can n place → RuleWritten fair i o rule condition old new′ number′ can′ n′ place′
+    → RuleWrittenAgree (2 ^ i) new new′ number can n place number′ can′ n′ place′
+one-solve-rule i {new = new} {new′ = new′} x y =
+    let w = one-rule (x .solved) (y .solved) in
+    record {
+      same-number = numbers answerNumber (w .answer) (x .number-of) (y .number-of);
+      same-can = numbers canFlag (w .answer) (x .can-of) (y .can-of);
+      same-n = numbers answerStates (w .answer) (x .n-of) (y .n-of);
+      same-place = numbers answerPlace (w .answer) (x .place-of) (y .place-of);
+      transitions = w .transitions;
+      accepting = w .accepting;
+      tables = subst₂ (λ (k m : ℕ). TablesAfter k m (2 ^ i) (new .system) (new .environment) (new′ .system) (new′ .environment)) (sym (x .number-of)) (sym (x .n-of)) (w .tables);
+    }
+
+-- two runs of `airtable_solve_given` agree
+pub one-solve-given : {fair : Bool} (i o : ℕ) {start n : ℕ} {transitions accepting : List ℕ} {mask : ℕ} {σ₀ τ₀ σ τ σ′ τ′ : List ℕ} {number can place number′ can′ place′ : ℕ}
+    → GivenWritten fair i o start (arena i o n transitions accepting mask) σ₀ τ₀ σ τ number can place
+    → GivenWritten fair i o start (arena i o n transitions accepting mask) σ₀ τ₀ σ′ τ′ number′ can′ place′
+    → GivenWrittenAgree n (2 ^ i) σ τ σ′ τ′ number can place number′ can′ place′
+one-solve-given i o {n = n} {σ = σ} {τ = τ} {σ′ = σ′} {τ′ = τ′} x y =
+    let w = one-given i o (x .solved) (y .solved) in
+    record {
+      same-number = numbers answerNumber (w .answer) (x .number-of) (y .number-of);
+      same-can = numbers canFlag (w .answer) (x .can-of) (y .can-of);
+      same-place = numbers answerPlace (w .answer) (x .place-of) (y .place-of);
+      tables = subst (λ (k : ℕ). TablesAfter k n (2 ^ i) σ τ σ′ τ′) (sym (x .number-of)) (w .tables);
+    }
+
+-- two runs of `airtable_follow` agree: its promise gives each number as a function of the input
+pub one-follow : {answer : Followed} {state₀ reached₀ state reached row output place number state′ reached′ row′ output′ place′ number′ : ℕ}
+    → StepWritten answer state₀ reached₀ state reached row output place number → StepWritten answer state₀ reached₀ state′ reached′ row′ output′ place′ number′
+    → StepWrittenAgree state reached row output place number state′ reached′ row′ output′ place′ number′
+one-follow x y =
+    record {
+      same-state = x .state-of ∙ sym (y .state-of);
+      same-reached = x .reached-of ∙ sym (y .reached-of);
+      same-row = x .row-of ∙ sym (y .row-of);
+      same-output = x .output-of ∙ sym (y .output-of);
+      same-place = x .place-of ∙ sym (y .place-of);
+      same-number = x .number-of ∙ sym (y .number-of);
+    }
+
+-- two runs of `airtable_try_rule` agree
+pub one-try-rule : {i o : ℕ} {text letters : List ℕ} {number satisfied place number′ satisfied′ place′ : ℕ}
+    → TrialWritten i o text letters number satisfied place → TrialWritten i o text letters number′ satisfied′ place′
+    → TrialWrittenAgree number satisfied place number′ satisfied′ place′
+one-try-rule x y =
+    let e = one-trial (x .tried) (y .tried) in
+    record {
+      same-number = numbers trialNumber e (x .number-of) (y .number-of);
+      same-satisfied = numbers satisfiedFlag e (x .satisfied-of) (y .satisfied-of);
+      same-place = numbers trialPlace e (x .place-of) (y .place-of);
+    }

@@ -1,0 +1,82 @@
+-- The listing call has one outcome: two runs on one input, into outputs that held the same, for which its promise holds agree as specs/Agreement.antt says.
+-- Assumes nothing.
+use Prim.Native.Nat.{ℕ, _^_, min}
+use mathlib.Core.Path.{_≡_, sym, ap, _∙_, subst}
+use mathlib.Core.Bool.{Bool, true, false}
+use mathlib.Core.List.{List, _++_}
+use mathlib.Core.Logic.{_⊎_, ⊎-elim}
+use lib.ListN.{length, take, drop}
+use Rattle.game.specs.declared.answer.Answer.{Answer}
+use Rattle.game.specs.declared.answer.Answer.the-variants.{Can, Cannot, Refused}
+use Rattle.game.specs.Answer.{verdictOf}
+use Rattle.game.specs.Rule.{Buffers}
+use Rattle.game.specs.Agreement.{RuleAgree}
+use Rattle.game.proofs.OneAnswer.{one-rule}
+use Rattle.listing.specs.Input.{Asks}
+use Rattle.listing.specs.Listing.{listing}
+use Rattle.listing.specs.Promise.{Answers, Request, Prints, Listed}
+use Rattle.listing.specs.Agreement.{ListingsAgree, ListedAgree}
+use Rattle.listing.proofs.RequestLaws.{one-request}
+
+module _ {input : List ℕ} {i o : ℕ} {fair : Bool} {condition rule : List ℕ} (asks : Asks input i o fair condition rule) (text text′ : List ℕ) where
+  -- two listings of a verdict
+  both-verdicts : (can : Bool) (n : ℕ) (new new′ : Buffers) (a : Answer) → RuleAgree (2 ^ i) new new′ (verdictOf can n) a
+      → text ≡ listing i new (verdictOf can n) → text′ ≡ listing i new′ a → ListingsAgree input text text′
+  both-verdicts can n new new′ a w e f =
+      record {
+        i = i;
+        o = o;
+        fair = fair;
+        condition = condition;
+        rule = rule;
+        asks = asks;
+        can = can;
+        n = n;
+        new = new;
+        new′ = new′;
+        agree = subst (λ (b : Answer). RuleAgree (2 ^ i) new new′ (verdictOf can n) b) (sym (w .answer)) w;
+        listed = e;
+        listed′ = f ∙ ap (listing i new′) (sym (w .answer));
+      }
+
+  -- two listings, by the first answer
+  both-listings : (new new′ : Buffers) (a b : Answer) → RuleAgree (2 ^ i) new new′ a b
+      → text ≡ listing i new a → text′ ≡ listing i new′ b → (text ≡ text′) ⊎ ListingsAgree input text text′
+  both-listings new new′ (Can n) b w e f = _⊎_.inr (both-verdicts true n new new′ b w e f)
+  both-listings new new′ (Cannot n) b w e f = _⊎_.inr (both-verdicts false n new new′ b w e f)
+  both-listings new new′ (Refused x) b w e f = _⊎_.inl (e ∙ sym (f ∙ ap (listing i new′) (sym (w .answer))))
+
+  both-answers : Answers i o fair condition rule text → Answers i o fair condition rule text′ → (text ≡ text′) ⊎ ListingsAgree input text text′
+  both-answers u v = both-listings (u .new) (v .new) (u .answer) (v .answer) (one-rule (u .solved) (v .solved)) (u .listed) (v .listed)
+
+-- a request is read in one way
+both-requests : {input text text′ : List ℕ} → Request input text → Request input text′ → (text ≡ text′) ⊎ ListingsAgree input text text′
+both-requests {input} {text} {text′} p q =
+    let e = one-request (p .asks) (q .asks) in
+    let v : Answers (p .i) (p .o) (p .fair) (p .condition) (p .rule) text′ = rw (e .0, e .1, e .2, e .3, e .4) (q .answers) in
+    both-answers (p .asks) text text′ (p .answers) v
+
+both-texts : {input text text′ : List ℕ} → Prints input text → Prints input text′ → (text ≡ text′) ⊎ ListingsAgree input text text′
+both-texts p q =
+    ⊎-elim
+    (λ u. ⊎-elim (λ v. both-requests u v) (λ v. absurd (v .none _ _ _ _ _ (u .asks))) q)
+    (λ u. ⊎-elim (λ v. absurd (u .none _ _ _ _ _ (v .asks))) (λ v. _⊎_.inl (u .refused ∙ sym (v .refused))) q)
+    p
+
+-- two runs of the listing call agree
+pub one-list : {input output output₁ output₂ : List ℕ} {r₁ r₂ : ℕ}
+    → Listed input output output₁ r₁ → Listed input output output₂ r₂ → ListedAgree input output output₁ output₂ r₁ r₂
+one-list {input} {output} {output₁} {output₂} {r₁} {r₂} x y =
+    record {
+      text₁ = x .text;
+      text₂ = y .text;
+      shows₁ = record { written = x .written; count = x .count };
+      shows₂ = record { written = y .written; count = y .count };
+      texts = ⊎-elim (λ e. _⊎_.inl (e, same-output e, same-count e)) (λ w. _⊎_.inr w) (both-texts (x .prints) (y .prints));
+    }
+  where
+    same-output : x .text ≡ y .text → output₁ ≡ output₂
+    same-output e = x .written ∙ ap (λ (t : List ℕ). take (length output) t ++ drop (length t) output) e ∙ sym (y .written)
+
+    same-count : x .text ≡ y .text → r₁ ≡ r₂
+    same-count e = x .count ∙ ap (λ (t : List ℕ). min (length t) (length output)) e ∙ sym (y .count)

@@ -1,7 +1,7 @@
-//! README: the automaton of 01: vectors with one bit a coordinate, states as sets of vectors in
+//! README: the automaton of the specification: vectors with one bit a coordinate, states as sets of vectors in
 //! a 64-bit word, discovery breadth first with letters ascending. `build_wide` does the same with
 //! ordered sets for any count of operators; it checks the other and serves published rules that
-//! are over 01's limits.
+//! are over the specification's limits.
 
 use crate::tree::Tree;
 use crate::wording::name_holds;

@@ -1,5 +1,5 @@
-//! README: the calls of 01 with their refusals in 01's order and the buffers after. Everything is
-//! checked first, in the order of 01's last table, and only then is anything written.
+//! README: the calls of the specification with their refusals in the specification's order and the buffers after. Everything is
+//! checked first, in the order of the specification's last table, and only then is anything written.
 
 use crate::automaton::{build, Automaton};
 use crate::game::Game;
@@ -10,7 +10,7 @@ use crate::tree::{condition_mask, Tree};
 use crate::wording::Wording;
 use crate::Mode;
 
-/// A refusal: its number, and a place or index where 01 names one.
+/// A refusal: its number, and a place or index where the specification names one.
 #[derive(Clone, Copy, Debug, PartialEq, Eq)]
 pub struct Refusal {
     pub number: u8,

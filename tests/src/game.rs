@@ -12,7 +12,7 @@ use crate::Mode;
 /// A set of states.
 pub type States = u128;
 
-/// A game: moves as in 01, goals, the condition by inputs, and the mode.
+/// A game: moves as in the specification, goals, the condition by inputs, and the mode.
 #[derive(Clone, Debug)]
 pub struct Game {
     pub i: usize,

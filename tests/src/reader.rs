@@ -1,5 +1,5 @@
 //! README: recursive descent from text to tree. It only says yes or no; the place of a bad text
-//! is found by another method, in `viable`. The limits of 01 are checked here too.
+//! is found by another method, in `viable`. The limits are checked here too.
 
 use crate::tree::{Node, Tree};
 use crate::viable::longest_viable;
@@ -84,7 +84,7 @@ pub fn read_plain(text: &[u8], wording: Wording) -> Option<Tree> {
     (reading.at == text.len()).then_some(Tree { nodes: reading.nodes, root })
 }
 
-/// Reads a whole text; where it is bad, hands back 01's place.
+/// Reads a whole text; where it is bad, hands back the specification's place.
 pub fn read(text: &[u8], wording: Wording) -> Result<Tree, usize> {
     read_plain(text, wording).ok_or_else(|| longest_viable(text, wording))
 }

@@ -118,7 +118,7 @@ fn shift(sets: &[Set], class: Class) -> Set {
     next
 }
 
-/// 01's place: the count of first bytes that can begin a text, at most the text's length.
+/// The specification's place: the count of first bytes that can begin a text, at most the text's length.
 pub fn longest_viable(text: &[u8], wording: Wording) -> usize {
     let mut first = Set::new(0);
     first.predict(0, 0);

@@ -1,4 +1,4 @@
-//! README: every line of 01's "Readings of small rules", the printed example and the mistakes an
+//! README: every line of the specification's "Readings", the printed example and the mistakes an
 //! engineer would make.
 
 use solver::automaton::build;
@@ -32,7 +32,7 @@ fn reading(mode: Mode, condition: &str, rule: &str, can: bool, n: usize) {
 /// A reading: the rule, the mode, the condition, whether the station can, and n.
 type Row<'a> = (&'a str, Mode, &'a str, bool, usize);
 
-/// The readings that 01 marks as proved, in its order.
+/// The readings that the specification marks as proved, in its order.
 const PROVED: [Row; 11] = [
     ("Fp", Fair, "1", true, 3),
     ("Fa", Fair, "1", false, 3),
@@ -93,7 +93,7 @@ fn row_lines(source: &str) -> Vec<&str> {
     lines
 }
 
-/// Whether these are 01's rows: all of them, in order, each as it is.
+/// Whether these are the specification's rows: all of them, in order, each as it is.
 fn are_proved(lines: &[&str]) -> bool {
     let rows: Vec<_> = lines.iter().map(|line| row_of(line)).collect();
     let rows: Vec<Row> =
@@ -171,7 +171,7 @@ fn a_rule_with_128_states_is_served() {
     assert_eq!(solve(4, 4, Fair, "1", rule).unwrap().n, 128);
 }
 
-/// 01's printed example: the four lines, and the listing.
+/// The specification's printed example: the four lines, and the listing.
 const EXAMPLE: (&str, &str) = ("1 0\nfair\n1\nFa\n", "cannot 3\n0 - O 0\n1 - O 0\n2 * S 0 0\n");
 
 #[test]

@@ -47,7 +47,7 @@ unfolding run valuation accepts after
 run-valuation φ [] s = refl
 run-valuation φ (a ∷ w) s = run-valuation φ w (after φ s a) ∙ bit-word (λ v. bit s (present φ a v)) (vectors φ) (valuation φ w) (valuation-lt φ w)
 
--- demand 2's claim, for the automaton as 01 defines it
+-- demand 2's claim, for the automaton as the specification defines it
 pub run-accepts : (φ : Formula) (a : ℕ) (w : List ℕ) → T (accepts φ (run φ (start φ) (a ∷ w))) ↔ Satisfies φ (a ∷ w)
 unfolding start
 run-accepts φ a w =

@@ -1,4 +1,4 @@
--- Letters (01, "Letters"): i inputs and o outputs make 2^i input numbers, 2^o output numbers and L = 2^(i+o) letters.
+-- Letters (specification, "Letters"): i inputs and o outputs make 2^i input numbers, 2^o output numbers and L = 2^(i+o) letters.
 -- Assumes nothing.
 use Prim.Native.Nat.{ℕ, _+_, _*_, _^_, _<_}
 use mathlib.Core.Bool.{Bool, _||_}

@@ -1,4 +1,4 @@
--- Demand 2: what it means that transitions and accepting flags, which 01 calls moves and marks, hold the automaton of a formula.
+-- Demand 2: what it means that transitions and accepting flags, which the specification calls moves and marks, hold the automaton of a formula.
 -- Assumes nothing.
 use Prim.Native.Nat.{ℕ, suc, _+_, _*_, _≤_, _<_}
 use mathlib.Core.Path.{_≡_}

@@ -1,4 +1,4 @@
--- Numbers as sets of bits: a letter, a valuation and a state are each such a number (01, "Letters" and "The automaton").
+-- Numbers as sets of bits: a letter, a valuation and a state are each such a number (specification, "Letters" and "Automaton").
 -- Assumes nothing.
 use Prim.Native.Nat.{ℕ, zero, suc, _+_, _*_, _/_, _%_, _^_}
 use mathlib.Core.Bool.{Bool, true, false}

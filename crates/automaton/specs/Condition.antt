@@ -1,4 +1,4 @@
--- The condition (01, "Rule text" and "The game and its tables"), which the field calls the assumption: a formula over the inputs,
+-- The condition (specification, "Texts" and "Game"), which the field calls the assumption: a formula over the inputs,
 -- judged on one input number. The layer's call turns its text into a mask; its answer is the declared type `Assumption`, its order of refusals 1, 2, 7, 8.
 -- Assumes nothing.
 use Prim.Native.Nat.{ℕ, _^_, _<_}
@@ -34,7 +34,7 @@ Judges κ i mask = (x : ℕ) → x < 2 ^ i → (bit mask x ≡ true) ↔ Satisfi
 unfoldable pub conditionRefusal : ℕ → List ℕ → Reading → Refusal
 conditionRefusal i text ρ = cond (badAlphabet i 0) Alphabet (cond (tooLong text) TextLength (afterCondition ρ Nothing))
 
--- 01's number and place of every answer: none where the call is served
+-- the specification's number and place of every answer: none where the call is served
 abbrev pub assumptionNumber : Assumption → ℕ
 assumptionNumber (Mask m) = 0
 assumptionNumber (Refused x) = numberOf x

@@ -1,5 +1,5 @@
 -- The automaton layer's own call: from a rule's text to transitions and accepting flags. Its answer is the declared type `Construction`.
--- 01 names no such call; its order of refusals is that of a rule with the game's and the condition's left out: 1, 2, 3, 4, 5, 6, 9.
+-- The specification names no such call; its order of refusals is that of a rule with the game's and the condition's left out: 1, 2, 3, 4, 5, 6, 9.
 -- Assumes nothing.
 use Prim.Native.Nat.{ℕ, _*_}
 use mathlib.Core.Path.{_≡_}
@@ -39,7 +39,7 @@ constructRefusal i o text transitions accepting ρ n =
     (afterRule ρ
     (cond (ltb stateLimit n) StateCount Nothing))))
 
--- 01's number and place of every answer: none where the call is served
+-- the specification's number and place of every answer: none where the call is served
 abbrev pub constructionNumber : Construction → ℕ
 constructionNumber (Built n) = 0
 constructionNumber (Refused x) = numberOf x

@@ -1,4 +1,4 @@
--- The reachable states and their numbers (01, "The automaton"): by first discovery, breadth first, letters ascending, the start 0.
+-- The reachable states and their numbers (specification, "Automaton"): by first discovery, breadth first, letters ascending, the start 0.
 -- Step t of the discovery looks at letter t % L of state t / L. proofs/Reachable.antt: where they are at most 128, `states` holds every
 -- reachable state, and each once; where they are more, it holds more than 128 different ones.
 -- Assumes nothing.
@@ -48,7 +48,7 @@ unfoldable pub states : Formula → ℕ → List ℕ
 unfolding discovered
 states φ L = discovered φ L (stateLimit * L)
 
--- their number: 01's n where it is at most 128, and else more than 128
+-- their number: the specification's n where it is at most 128, and else more than 128
 unfoldable pub stateCount : Formula → ℕ → ℕ
 unfolding states
 stateCount φ L = length (states φ L)

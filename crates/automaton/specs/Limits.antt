@@ -1,4 +1,4 @@
--- The limit on states (01, refusals 9 and 10, and "In the first 128 states' share").
+-- The limit on states (specification, refusals 9 and 10, and "Calls").
 -- Assumes nothing.
 use Prim.Native.Nat.{ℕ}
 

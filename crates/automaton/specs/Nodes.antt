@@ -1,6 +1,6 @@
 -- The nodes of a formula as the functions below the calls read them: what a node stands for, its value for 64 valuations at once,
 -- and which node a coordinate belongs to. The words themselves are those of the reader's specs/Nodes.antt.
--- No promise of a call that 01 names rests on this file.
+-- No promise of a call that the specification names rests on this file.
 -- Assumes nothing.
 use Prim.Native.Nat.{ℕ, zero, suc, _+_, _-_, _/_, _%_, _≤_, _<_}
 use mathlib.Core.Path.{_≡_}

@@ -1,5 +1,5 @@
 -- What the functions below the calls hand to each other: the nodes of a formula, and the table of its valuations.
--- No promise of a call that 01 names rests on this file.
+-- No promise of a call that the specification names rests on this file.
 -- Assumes nothing.
 use Prim.Native.Nat.{ℕ, _+_, _*_, _≤_, _<_}
 use mathlib.Core.Path.{_≡_}

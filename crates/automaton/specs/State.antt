@@ -1,4 +1,4 @@
--- The states of a formula's automaton (01, "The automaton"): a state is a set of valuations, given as the number whose bit v says that v is in it.
+-- The states of a formula's automaton (specification, "Automaton"): a state is a set of valuations, given as the number whose bit v says that v is in it.
 -- Assumes nothing.
 use Prim.Native.Nat.{ℕ}
 use mathlib.Core.Bool.{Bool}
@@ -16,7 +16,7 @@ unfoldable pub after : Formula → ℕ → ℕ → ℕ
 unfolding word bit present vectors
 after φ s a = word (λ v. bit s (present φ a v)) (vectors φ)
 
--- an accepting state, which 01 calls a goal, holds the end valuation
+-- an accepting state, which the specification calls a goal, holds the end valuation
 unfoldable pub accepts : Formula → ℕ → Bool
 unfolding bit endVector
 accepts φ s = bit s (endVector φ)

@@ -1,4 +1,4 @@
--- The meaning of LTLf (01, "What a rule means"): a formula at a position of a finite trace, which 01 calls a list of letters.
+-- The meaning of LTLf (specification, "Meaning"): a formula at a position of a finite trace, which the specification calls a list of letters.
 -- A name is the number of its bit in a letter. Assumes nothing.
 use Prim.Native.Nat.{ℕ, suc, _≤_, _<_}
 use mathlib.Core.List.{List, [], _∷_}

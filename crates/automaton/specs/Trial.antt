@@ -1,4 +1,4 @@
--- The trial call (01, "Given automata, follower, trial, program"): whether a list of letters satisfies a rule. Its answer is the declared type `Trial`.
+-- The trial call (specification, "Calls"): whether a list of letters satisfies a rule. Its answer is the declared type `Trial`.
 -- Its order of refusals is 1, 2, 4, 5, 6, 13, the last with the index of the first letter that is too large.
 -- Assumes nothing.
 use Prim.Native.Nat.{ℕ, suc}
@@ -39,7 +39,7 @@ trialRefusal i o text letters ρ =
     (afterRule ρ
     (afterList (letterCount i o) letters Value Nothing)))
 
--- 01's number and place of every answer: none where the call is served
+-- the specification's number and place of every answer: none where the call is served
 abbrev pub trialNumber : Trial → ℕ
 trialNumber Satisfied = 0
 trialNumber Violated = 0

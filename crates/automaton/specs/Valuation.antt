@@ -1,4 +1,4 @@
--- Valuations of the temporal subformulas, which 01 calls vectors ("The automaton"), and how a letter makes one from the next position's.
+-- Valuations of the temporal subformulas, which the specification calls vectors ("Automaton"), and how a letter makes one from the next position's.
 -- Coordinate 0 is the whole formula; a subformula's own operators have the coordinates from k on, in the order of their bytes in the text:
 -- a prefix operator comes before its operand's, an infix one between its two operands'.
 -- Assumes nothing.

@@ -7,7 +7,7 @@ use game::follow::Followed;
 use reader::refusal::number_of;
 use reader::refusal::place_of;
 
-// 01's number, 0 for a step and for no row.
+// The specification's number, 0 for a step and for no row.
 pub(crate) fn step_number(answer: Followed) -> u8
     ensures { λ r. ⌜ r ≡ followedNumber answer ⌝ }
 {

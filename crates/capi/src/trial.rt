@@ -6,7 +6,7 @@ use automaton::trial::Trial;
 use reader::refusal::number_of;
 use reader::refusal::place_of;
 
-// 01's number, 0 for a served call.
+// The specification's number, 0 for a served call.
 pub(crate) fn trial_number(answer: Trial) -> u8
     ensures { λ r. ⌜ r ≡ trialNumber answer ⌝ }
 {

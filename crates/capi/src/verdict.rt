@@ -6,7 +6,7 @@ use game::answer::Answer;
 use reader::refusal::number_of;
 use reader::refusal::place_of;
 
-// 01's number, 0 for a verdict.
+// The specification's number, 0 for a verdict.
 pub(crate) fn answer_number(answer: Answer) -> u8
     ensures { λ r. ⌜ r ≡ answerNumber answer ⌝ }
 {

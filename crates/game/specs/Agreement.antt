@@ -1,7 +1,7 @@
 -- What two runs of a call that solves a game have in common. Two runs are two answers, each with the buffers that it left, for one input and the same buffers before;
 -- proofs/OneAnswer.antt says that any two for which the call's promise holds agree so. Determined are the answer, n, the automaton, who wins which state, and every
--- byte of both tables that is not free. Free are the bytes of a state below n in the table of the player who wins it: there any good byte may stand (01, "The game
--- and its tables"). No promise of a call that 01 names rests on this file.
+-- byte of both tables that is not free. Free are the bytes of a state below n in the table of the player who wins it: there any good byte may stand (specification,
+-- "Calls"). No promise of a call that the specification names rests on this file.
 -- Assumes nothing.
 use Prim.Native.Nat.{ℕ, _/_, _<_}
 use mathlib.Core.Path.{_≡_}
@@ -34,7 +34,7 @@ pub record TablesAgree (n inputs : ℕ) (σ τ σ′ τ′ : List ℕ) : Type 0 
   pub system : TableAgrees (λ k. Free n τ true (k / inputs)) σ σ′
   pub environment : TableAgrees (Free n τ false) τ τ′
 
--- both tables after runs with this number of 01's: served on n states, they agree; refused, they are the same
+-- both tables after runs with this number of the specification's: served on n states, they agree; refused, they are the same
 pub record TablesAfter (number n inputs : ℕ) (σ τ σ′ τ′ : List ℕ) : Type 0 where
   pub served : number ≡ 0 → TablesAgree n inputs σ τ σ′ τ′
   pub refused : (number ≡ 0 → ⊥) → (σ ≡ σ′) × (τ ≡ τ′)

@@ -1,4 +1,4 @@
--- The answers of the two calls that solve a game, the declared type `Answer`, in 01's numbers.
+-- The answers of the two calls that solve a game, the declared type `Answer`, in the specification's numbers.
 -- Assumes nothing.
 use Prim.Native.Nat.{ℕ}
 use mathlib.Core.Bool.{Bool, cond}
@@ -6,7 +6,7 @@ use Rattle.reader.specs.Refusal.{numberOf, placeOf}
 use Rattle.game.specs.declared.answer.Answer.{Answer}
 use Rattle.game.specs.declared.answer.Answer.the-variants.{Can, Cannot, Refused}
 
--- 01's number of every answer: 0 for a verdict
+-- the specification's number of every answer: 0 for a verdict
 abbrev pub answerNumber : Answer → ℕ
 answerNumber (Can n) = 0
 answerNumber (Cannot n) = 0

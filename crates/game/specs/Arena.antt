@@ -1,5 +1,5 @@
--- The arena of a game (01, "The game and its tables" and "Given automata"): an automaton's states with the two players' numbers.
--- The players are the environment, which 01 calls the outside, and the system, which 01 calls the station. In each step the environment chooses an input
+-- The arena of a game (specification, "Game" and "Calls"): an automaton's states with the two players' numbers.
+-- The players are the environment and the system, which the specification calls the outside and the station. In each step the environment chooses an input
 -- number, then the system, having seen it, an output number.
 -- Assumes nothing.
 use Prim.Native.Nat.{ℕ, _+_, _*_, _^_}
@@ -12,7 +12,7 @@ use Rattle.automaton.specs.Bits.{bit}
 use Rattle.game.specs.declared.answer.Mode.{Mode}
 use Rattle.game.specs.declared.answer.Mode.the-variants.{Fair, Stable}
 
--- n states, 2^i input and 2^o output numbers, the transitions (01's moves), the accepting flags (01's marks) and the assumption (01's condition) as a mask
+-- n states, 2^i input and 2^o output numbers, the transitions, the accepting flags and the assumption as a mask: the specification's moves, marks and condition
 pub record Arena : Type 0 where
   pub states : ℕ
   pub inputs : ℕ
@@ -34,7 +34,7 @@ moveIndex G s x y = s * (G .inputs * G .outputs) + letterOf (G .inputs) x y
 unfoldable pub next : Arena → ℕ → ℕ → ℕ → ℕ
 next G s x y = getD (G .transitions) (moveIndex G s x y) 0
 
--- an accepting state, which 01 calls a goal: any flag but 0
+-- an accepting state, which the specification calls a goal: any flag but 0
 unfoldable pub goal : Arena → ℕ → Bool
 goal G s = not (eqb (getD (G .accepting) s 0) 0)
 

@@ -1,5 +1,5 @@
 -- The bytes of the two tables as the players' ranks allow them: what the functions that fill the tables promise each other.
--- No promise of a call that 01 names rests on this file.
+-- No promise of a call that the specification names rests on this file.
 -- Assumes nothing.
 use Prim.Native.Nat.{ℕ, _*_, _-_, _/_, _%_, _<_, _≤_}
 use mathlib.Core.Path.{_≡_}

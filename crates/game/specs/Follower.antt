@@ -1,4 +1,4 @@
--- The follower (01, "Given automata, follower, trial, program"): one step of the system's strategy from a position, which is a state and whether a goal was entered.
+-- The follower (specification, "Calls"): one step of the system's strategy from a position, which is a state and whether a goal was entered.
 -- Its answer is the declared type `Followed`; its order is 1, 10, 3, 12, 13, "no row", 11.
 -- Assumes nothing.
 use Prim.Native.Nat.{ℕ, _+_, _*_}
@@ -61,7 +61,7 @@ unfolding laterFollowed
 followed i o G σ p x =
     cond (badAlphabet i o) (Refused Alphabet) (cond (badCount (G .states)) (Refused GivenCount) (laterFollowed G σ p x))
 
--- 01's number of every answer: 0 for a move and for "no row"
+-- the specification's number of every answer: 0 for a move and for "no row"
 abbrev pub followedNumber : Followed → ℕ
 followedNumber (Moved y p) = 0
 followedNumber NoRow = 0
@@ -73,7 +73,7 @@ followedPlace (Moved y p) = 0
 followedPlace NoRow = 0
 followedPlace (Refused x) = placeOf x
 
--- the whole promise: the answer, and 01's number and place of it
+-- the whole promise: the answer, and the specification's number and place of it
 pub record FollowedBy (i o : ℕ) (G : Arena) (σ : List ℕ) (p : Position) (x : ℕ) (r : Followed) : Type 0 where
   pub answer : r ≡ followed i o G σ p x
   pub number : followedNumber r ≡ numberOf (followRefusal i o G σ p x)

@@ -1,4 +1,4 @@
--- The call for a given automaton (01, "Given automata, follower, trial, program" and "What a refusal hands back").
+-- The call for a given automaton (specification, "Calls" and "Refusals").
 -- Its answer is the declared type `Answer`; its order of refusals is 1, 10, 3, 12, 11, 13.
 -- Assumes nothing.
 use Prim.Native.Nat.{ℕ, _+_, _*_, _/_, _^_}
@@ -51,7 +51,7 @@ laterRefusal start G σ τ =
 unfoldable pub givenRefusal : ℕ → ℕ → ℕ → Arena → List ℕ → List ℕ → Refusal
 givenRefusal i o start G σ τ = cond (badAlphabet i o) Alphabet (cond (badCount (G .states)) GivenCount (laterRefusal start G σ τ))
 
--- the promise with this refusal coming first: 01's number and place, the answer and both tables on every input
+-- the promise with this refusal coming first: the specification's number and place, the answer and both tables on every input
 pub record Solved (refusal : Refusal) (fair : Bool) (start : ℕ) (G : Arena) (σ₀ τ₀ σ τ : List ℕ) (r : Answer) : Type 0 where
   pub number : answerNumber r ≡ numberOf refusal
   pub place : answerPlace r ≡ placeOf refusal

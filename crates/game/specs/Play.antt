@@ -1,4 +1,4 @@
--- Plays (01, "The game and its tables"): finite lists of steps, of any length, the empty one too, from a state of the arena.
+-- Plays (specification, "Game"): finite lists of steps, of any length, the empty one too, from a state of the arena.
 -- Assumes nothing.
 use Prim.Native.Nat.{ℕ, suc, _<_}
 use mathlib.Core.Path.{_≡_}

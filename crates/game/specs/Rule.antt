@@ -1,4 +1,4 @@
--- The rule call (01, "The game and its tables"): demands 1, 2 and 3 for a rule. Its answer is the declared type `Answer`; its order of refusals is 1 to 9.
+-- The rule call (specification, "Calls"): demands 1, 2 and 3 for a rule. Its answer is the declared type `Answer`; its order of refusals is 1 to 9.
 -- Assumes nothing.
 use Prim.Native.Nat.{ℕ, _*_, _^_, _<_, _≤_}
 use mathlib.Core.Path.{_≡_}
@@ -85,7 +85,7 @@ pub record Served (fair : Bool) (i o : ℕ) (rule condition : List ℕ) (old new
   pub can-promise : can ≡ true → Can fair formula (arena i o n (new .transitions) (new .accepting) (maskOf assumption i)) (new .system)
   pub cannot-promise : can ≡ false → Cannot fair formula (arena i o n (new .transitions) (new .accepting) (maskOf assumption i)) (new .environment)
 
--- the whole promise: 01's number and place, the answer and the four buffers on every input
+-- the whole promise: the specification's number and place, the answer and the four buffers on every input
 pub record RuleSolved (fair : Bool) (i o : ℕ) (rule condition : List ℕ) (old new : Buffers) (r : Answer) : Type 0 where
   pub reading : Reading
   pub read : ReadingOf i (ruleKind i o) rule reading

@@ -1,6 +1,6 @@
 -- The solver's own contracts: the test on one step, the passes that give inner ranks and the rounds that give outer ranks.
 -- The outer ranks are the system's when fair and the environment's when stable; the inner ranks are the other player's, and are found anew in each round.
--- No promise of a call that 01 names rests on this file.
+-- No promise of a call that the specification names rests on this file.
 -- Assumes nothing.
 use Prim.Native.Nat.{ℕ, _+_, _<_, _≤_}
 use mathlib.Core.Path.{_≡_}

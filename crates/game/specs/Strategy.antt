@@ -1,4 +1,4 @@
--- Demand 3: what it means that a strategy, which 01 calls a table, holds good on every play from a state.
+-- Demand 3: what it means that a strategy, which the specification calls a table, holds good on every play from a state.
 -- Each is one claim about the whole list of steps, for every list.
 -- Assumes nothing.
 use Prim.Native.Nat.{ℕ, _+_, _*_, _<_, _≤_}

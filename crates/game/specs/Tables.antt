@@ -1,4 +1,4 @@
--- The two tables that are handed out (01, "The game and its tables"): every state below n is won by one player, the other player's bytes there are 255,
+-- The two tables that are handed out (specification, "Calls"): every state below n is won by one player, the other player's bytes there are 255,
 -- from n up to 128 states all bytes are 255, and bytes beyond are as they were.
 -- Assumes nothing.
 use Prim.Native.Nat.{ℕ, _*_, _<_, _≤_}

@@ -1,5 +1,5 @@
 -- Ways of playing with any memory: a choice for all the steps so far, the earliest first. The system's way has the step's input in hand, the environment's
--- has not (01, "Letters": the outside chooses, then the station, having seen it). A strategy, which 01 calls a table, is a way that looks at the state alone.
+-- has not (specification, "Letters": the outside chooses, then the station, having seen it). A strategy, or table, is a way that looks at the state alone.
 -- Assumes nothing.
 use Prim.Native.Nat.{ℕ, zero, suc, _<_}
 use mathlib.Core.Path.{_≡_}

@@ -1,4 +1,5 @@
--- Some numbers, and refusal 14, read off the definitions. 01's printed example is derived from its four lines in the crate readings (proofs/PrintedExample.antt).
+-- Some numbers, and refusal 14, read off the definitions. The printed example is derived from its four lines in the crate
+-- readings (proofs/PrintedExample.antt).
 -- Assumes nothing.
 use mathlib.Core.Path.{_≡_, refl}
 use mathlib.Core.List.{[], _∷_}

@@ -1,7 +1,7 @@
 -- What two runs of the listing call on one input, into outputs that held the same, have in common (proofs/OneAnswer.antt: any two for which its promise holds).
 -- Either both texts are the same, so that the count and every byte of the output agree: so it is for every refusal, 14 too. Or both are listings of one verdict
 -- over buffers that agree as the rule call's do: they differ at most in the free bytes that are printed, which have one or two digits.
--- No promise of a call that 01 names rests on this file.
+-- No promise of a call that the specification names rests on this file.
 -- Assumes nothing.
 use Prim.Native.Nat.{ℕ, _^_, min}
 use mathlib.Core.Path.{_≡_}

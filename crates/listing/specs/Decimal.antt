@@ -1,4 +1,4 @@
--- Numbers in base ten, as bytes (01, "Given automata, follower, trial, program": the numbers that the program prints). There are no leading zeros; 0 is `0`.
+-- Numbers in base ten, as bytes (specification, "Program": the numbers that the program prints). There are no leading zeros; 0 is `0`.
 -- Assumes nothing.
 use Prim.Native.Nat.{ℕ, zero, suc, _+_, _/_, _%_}
 use mathlib.Core.Bool.{cond}

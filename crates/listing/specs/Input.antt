@@ -1,5 +1,5 @@
--- The program's input (01, "Given automata, follower, trial, program", and refusal 14): four lines, each ended by 0x0A. The first is exactly a digit, a blank
--- and a digit; where 01 leaves the digits open, 5 to 9 are read too and the call then refuses them by 1. The second is exactly `fair` or `stable`. The third and
+-- The program's input (specification, "Program", and refusal 14): four lines, each ended by 0x0A. The first is exactly a digit, a blank
+-- and a digit; 5 to 9 are read too, and the call then refuses them by 1. The second is exactly `fair` or `stable`. The third and
 -- the fourth, the condition and the rule, are any bytes but 0x0A. Nothing stands after the fourth, and the whole has at most 2,048 bytes.
 -- Assumes nothing.
 use Prim.Native.Nat.{ℕ, _≤_}

@@ -1,4 +1,4 @@
--- What the program prints (01, "Given automata, follower, trial, program"), as a function of the answer and of the buffers that the call leaves: the verdict and n,
+-- What the program prints (specification, "Program"), as a function of the answer and of the buffers that the call leaves: the verdict and n,
 -- then a line for each state, or the refusal's number and place. Fields are parted by one blank and each line ends with 0x0A.
 -- Assumes nothing.
 use Prim.Native.Nat.{ℕ, zero, suc, _*_, _^_}
@@ -33,7 +33,7 @@ fields table from (suc count) = (blank ∷ decimal (getD table from 0)) ++ field
 abbrev pub goalMark : List ℕ → ℕ → ℕ
 goalMark accepting s = cond (eqb (getD accepting s 0) 0) 45 42
 
--- the system, 01's station, wins a state where the environment has no move
+-- the system, the specification's station, wins a state where the environment has no move
 abbrev pub wonBySystem : List ℕ → ℕ → Bool
 wonBySystem environment s = eqb (getD environment s 0) noMove
 

@@ -1,5 +1,5 @@
--- The formulas of LTLf, which 01 calls rules ("Rule text"); a condition is a formula too. This is the one formula type of the project.
--- A name is the bit that it has in a letter: j for the j-th input, i + j for the j-th output of a station with i inputs (01, "Letters").
+-- The formulas of LTLf, which the specification calls rules ("Texts"); a condition is a formula too. This is the one formula type of the project.
+-- A name is the bit that it has in a letter: j for the j-th input, i + j for the j-th output of a station with i inputs (specification, "Letters").
 -- Assumes nothing.
 use Prim.Native.Nat.{ℕ, suc, _+_}
 use mathlib.Core.Bool.{Bool}

@@ -1,6 +1,6 @@
--- The grammar of texts (01, "Rule text"), as a relation between bytes and formulas.
+-- The grammar of texts (specification, "Texts"), as a relation between bytes and formulas.
 -- Every mark is one byte and blanks may stand anywhere between marks, so a text is judged by its bytes without the blanks.
--- The five levels: 0 what prefix marks bind, 1 until and release, 2 and, 3 or, 4 implies. 01 leaves open how & and | group; all infix marks group to the right.
+-- The five levels: 0 what prefix marks bind, 1 until and release, 2 and, 3 or, 4 implies. All infix marks group to the right.
 -- Assumes nothing.
 use Prim.Native.Nat.{ℕ, suc}
 use mathlib.Core.Path.{_≡_}

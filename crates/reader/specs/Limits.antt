@@ -1,4 +1,4 @@
--- The limits on a text (01, "What a refusal hands back", refusals 2, 5, 6 and 8).
+-- The limits on a text (specification, "Refusals", refusals 2, 5, 6 and 8).
 -- Assumes nothing.
 use Prim.Native.Nat.{ℕ}
 use mathlib.Core.Bool.{Bool}

@@ -1,4 +1,4 @@
--- What each byte of a text is (01, "Letters" and "Rule text"): its kind, and the part of a formula that it writes.
+-- What each byte of a text is (specification, "Letters" and "Texts"): its kind, and the part of a formula that it writes.
 -- A kind is the declared type `Kind`; an infix mark has its level: 1 for U and R, 2 for &, 3 for |, 4 for >.
 -- Assumes nothing.
 use Prim.Native.Nat.{ℕ, _+_, _-_}

@@ -1,4 +1,4 @@
--- The place of a bad text (01, "Rule text"): its error offset. Limits do not count here.
+-- The place of a bad text (specification, "Texts"): its error offset. Limits do not count here.
 -- Assumes nothing.
 use Prim.Native.Nat.{ℕ, suc, _≤_, _<_}
 use mathlib.Core.List.{List, _++_}

@@ -1,4 +1,4 @@
--- What the reader answers on a text: the declared type `Reading`, as the text determines it (01, refusals 2 and 4 to 8, in their order).
+-- What the reader answers on a text: the declared type `Reading`, as the text determines it (specification, refusals 2 and 4 to 8, in their order).
 -- proofs/Unambiguous.antt: every text has exactly one reading, and a text with a formula has exactly one formula and no place.
 -- Assumes nothing.
 use Prim.Native.Nat.{ℕ, _≤_, _<_}

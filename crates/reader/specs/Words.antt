@@ -1,5 +1,5 @@
 -- The node that a mark of a text writes, by its byte: what the code computes, beside Nodes, which says it by the formula.
--- No promise of a call that 01 names rests on this file.
+-- No promise of a call that the specification names rests on this file.
 -- Assumes nothing.
 use Prim.Native.Nat.{ℕ, _+_, _-_}
 use mathlib.Core.Bool.{cond}

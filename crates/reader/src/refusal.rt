@@ -48,7 +48,7 @@ pub fn condition_refusal(reading: Reading) -> Refusal
     }
 }
 
-// 01's number of a refusal, or 0 for none.
+// The specification's number of a refusal, or 0 for none.
 pub fn number_of(x: Refusal) -> u8
     ensures { λ r. ⌜ r ≡ numberOf x ⌝ }
 {

@@ -1,4 +1,4 @@
--- The rule call answers each row as 01 says: its promise (game, specs/Rule.antt) leaves it no other verdict and no other n on a row that is a reading.
+-- The rule call answers each row as the specification says: its promise (game, specs/Rule.antt) leaves it no other verdict and no other n on a row that is a reading.
 -- Assumes nothing.
 use Prim.Native.Nat.{ℕ}
 use mathlib.Core.Path.{_≡_, refl, sym, ap₂, _∙_, subst, subst₂}

@@ -1,4 +1,4 @@
--- 01's printed example, derived from its four lines: the promise of the listing call (listing, specs/Promise.antt) leaves no other text than 01's.
+-- The specification's printed example, derived from its four lines: the promise of the listing call (listing, specs/Promise.antt) leaves no other text.
 -- Assumes nothing.
 use Prim.Native.Nat.{ℕ, _+_, _*_, _≤_, _<_, min}
 use mathlib.Core.Path.{_≡_, refl, ap, _∙_, subst, subst₂}
@@ -183,7 +183,7 @@ prints-listing text =
     (λ q. answers-listing text (moved (q .i) (q .o) (q .fair) (q .condition) (q .rule) text (one-request (q .asks) asks) (q .answers)))
     (λ q. absurd (q .none 1 0 true (49 ∷ []) (70 ∷ 97 ∷ []) asks))
 
--- the promise of the listing call on the four lines: the output begins with 01's listing as far as it fits, and the rest of it is as it was
+-- the promise of the listing call on the four lines: the output begins with the specification's listing as far as it fits, and the rest of it is as it was
 pub printed-example : {output output′ : List ℕ} {r : ℕ} → Listed exampleInput output output′ r
     → (output′ ≡ take (length output) exampleListing ++ drop (length exampleListing) output) × (r ≡ min (length exampleListing) (length output))
 printed-example {output} {output′} {r} l =

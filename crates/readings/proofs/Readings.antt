@@ -1,4 +1,4 @@
--- The theorem: every row that 01 marks as proved is a reading. Each has a certificate, and one computation tests them all. There are eleven rows.
+-- The theorem: every row that the specification marks as proved is a reading. Each has a certificate, and one computation tests them all. There are eleven rows.
 -- Assumes nothing.
 use mathlib.Core.Path.{_≡_, refl}
 use mathlib.Core.List.{List, [], _∷_}
@@ -70,7 +70,7 @@ unfolding rows certificates allPass passes passesWith alphabetPasses textsPass s
     marks binaryOf unaryOf operandOf kindOf amongOf isTemporal allowedBy kindIn operators size
 readings = all-readings rows certificates refl
 
--- as many as 01 marks
+-- as many as the specification marks
 pub eleven : length rows ≡ 11
 unfolding rows
 eleven = refl

@@ -1,5 +1,5 @@
--- 01's printed example ("Given automata, follower, trial, program"): the four lines that the program reads, and what it prints, as bytes, each line under
--- its text. proofs/PrintedExample.antt: the promise of the listing call leaves it no other text. tests/tests/readings.rs reads both lists and holds them against 01's.
+-- The specification's printed example ("Program"): the four lines that the program reads, and what it prints, as bytes, each line under
+-- its text. proofs/PrintedExample.antt: the promise of the listing call leaves it no other text. tests/tests/readings.rs reads both lists and holds them against the specification's.
 -- Assumes nothing.
 use Prim.Native.Nat.{ℕ}
 use mathlib.Core.List.{List, [], _∷_}

@@ -1,7 +1,7 @@
--- What a row of 01's "Readings of small rules" says: on i, o, the text of a rule, a mode and the text of a condition, the verdict and n.
+-- What a row of the specification's "Readings" says: on i, o, the text of a rule, a mode and the text of a condition, the verdict and n.
 -- It is said of the texts themselves and by the definitions: the grammar's formulas, the number of reachable states, and the plays on the formula's automaton.
 -- Each text has one formula (reader, proofs/Unambiguous: one-formula) and no state is won by both players (game, proofs/Determined: one-winner),
--- so that "can" excludes "cannot". 01's (d), at its end: the rows are checked together, as one theorem (specs/Rows.antt, proofs/Readings.antt).
+-- so that "can" excludes "cannot". The rows are checked together, as one theorem (specs/Rows.antt, proofs/Readings.antt).
 -- Assumes nothing.
 use Prim.Native.Nat.{ℕ, _≤_}
 use mathlib.Core.Path.{_≡_}
@@ -37,7 +37,7 @@ pub record Row : Type 0 where
 abbrev pub rowOf : ℕ → ℕ → List ℕ → Mode → List ℕ → Bool → ℕ → Row
 rowOf i o rule mode condition can n = record { inputs = i; outputs = o; rule = rule; mode = mode; condition = condition; can = can; count = n }
 
--- a row of 01's list: there i = o = 1
+-- a row of the specification's list: there i = o = 1
 abbrev pub row : List ℕ → Mode → List ℕ → Bool → ℕ → Row
 row rule mode condition can n = rowOf 1 1 rule mode condition can n
 

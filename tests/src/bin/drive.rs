@@ -20,7 +20,7 @@ use std::fs::File;
 use std::io::Write;
 use std::process::{Command, Output, Stdio};
 
-/// Inputs by hand: the readings of 01, the printed example, shapes that are no four lines.
+/// Inputs by hand: the readings of the specification, the printed example, shapes that are no four lines.
 const BY_HAND: &[&[u8]] = &[
     b"1 0\nfair\n1\nFa\n",
     b"1 1\nfair\n1\nFp\n",

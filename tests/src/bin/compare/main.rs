@@ -1,5 +1,5 @@
 //! README: calls the library (through its C functions) and the solver on many seeded inputs and
-//! compares everything that 01 determines; free table bytes are judged by the judge.
+//! compares everything that the specification determines; free table bytes are judged by the judge.
 //!
 //!   compare [--seed N] [--times K] [--kind NAME [--case C]]
 //!

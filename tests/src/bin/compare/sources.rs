@@ -1,4 +1,4 @@
-//! README: what the sources state, run through the library: the readings of small rules of 01 and the
+//! README: what the sources state, run through the library: the readings of the specification and the
 //! rows of published.tsv. A row that is called valid, an equivalence most often, is tried on lists.
 
 use crate::common::*;
@@ -60,7 +60,7 @@ fn stated(
     }
 }
 
-/// The k-th reading of 01.
+/// The k-th reading of the specification.
 pub fn reading(case: u64, chance: &mut Chance, tally: &mut Tally) -> Result<(), String> {
     let Some(&(mode, condition, rule, wanted)) = READINGS.get(case as usize) else {
         let wide = "F((a|Gp)&(b|Gq)&(c|Gr)&(d|Gs))";

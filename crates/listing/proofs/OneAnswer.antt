@@ -1,11 +1,12 @@
--- The listing call has one outcome: two runs on one input, into outputs that held the same, for which its promise holds agree as specs/Agreement.antt says.
+-- The listing call and the program's call have one outcome: two runs on one input, into outputs that held the same, for which the call's promise holds agree as
+-- specs/Agreement.antt says.
 -- Assumes nothing.
 use Prim.Native.Nat.{ℕ, _^_, min}
-use mathlib.Core.Path.{_≡_, sym, ap, _∙_, subst}
+use mathlib.Core.Path.{_≡_, sym, ap, ap₂, _∙_, subst, subst₂}
 use mathlib.Core.Bool.{Bool, true, false}
 use mathlib.Core.List.{List, _++_}
 use mathlib.Core.Logic.{_⊎_, ⊎-elim}
-use lib.ListN.{length, take, drop}
+use lib.ListN.{length, take, drop, take-append-drop}
 use Rattle.game.specs.declared.answer.Answer.{Answer}
 use Rattle.game.specs.declared.answer.Answer.the-variants.{Can, Cannot, Refused}
 use Rattle.game.specs.Answer.{verdictOf}
@@ -14,7 +15,7 @@ use Rattle.game.specs.Agreement.{RuleAgree}
 use Rattle.game.proofs.OneAnswer.{one-rule}
 use Rattle.listing.specs.Input.{Asks}
 use Rattle.listing.specs.Listing.{listing}
-use Rattle.listing.specs.Promise.{Answers, Request, Prints, Listed}
+use Rattle.listing.specs.Promise.{Answers, Request, Prints, Listed, Responded}
 use Rattle.listing.specs.Agreement.{ListingsAgree, ListedAgree}
 use Rattle.listing.proofs.RequestLaws.{one-request}
 
@@ -80,3 +81,17 @@ one-list {input} {output} {output₁} {output₂} {r₁} {r₂} x y =
 
     same-count : x .text ≡ y .text → r₁ ≡ r₂
     same-count e = x .count ∙ ap (λ (t : List ℕ). min (length t) (length output)) e ∙ sym (y .count)
+
+-- two runs of the program's call agree: they leave the same, or two listings that agree
+pub one-respond : {lent output output₁ output₂ : List ℕ} {got r₁ r₂ : ℕ}
+    → Responded lent got output output₁ r₁ → Responded lent got output output₂ r₂
+    → ((output₁ ≡ output₂) × (r₁ ≡ r₂)) ⊎ ListingsAgree (take got lent) (take r₁ output₁) (take r₂ output₂)
+one-respond {lent} {output} {output₁} {output₂} {got} {r₁} {r₂} x y =
+    ⊎-elim
+    (λ e.
+    let n : r₁ ≡ r₂ = x .count ∙ ap (λ (t : List ℕ). length t) e ∙ sym (y .count) in
+    let front : take r₁ output₁ ≡ take r₂ output₂ = x .whole ∙ e ∙ sym (y .whole) in
+    let rest : drop r₁ output₁ ≡ drop r₂ output₂ = x .rest ∙ ap (λ (k : ℕ). drop k output) n ∙ sym (y .rest) in
+    _⊎_.inl (sym (take-append-drop r₁ output₁) ∙ ap₂ (λ (u v : List ℕ). u ++ v) front rest ∙ take-append-drop r₂ output₂, n))
+    (λ w. _⊎_.inr (subst₂ (λ (u v : List ℕ). ListingsAgree (take got lent) u v) (sym (x .whole)) (sym (y .whole)) w))
+    (both-texts (x .prints) (y .prints))

@@ -16,10 +16,10 @@ use Rattle.automaton.specs.Bits.{bit, one, word}
 use Rattle.automaton.specs.Trace.{Satisfies}
 use Rattle.automaton.specs.Valuation.{vectors, endVector}
 use Rattle.automaton.specs.State.{start, after, accepts}
-use Rattle.automaton.specs.Fold.{run}
+use Rattle.automaton.specs.inner.Fold.{run}
 use Rattle.automaton.specs.Discovery.{position, states, stateCount, target}
 use Rattle.automaton.specs.Automaton.{walk, Automaton, Cleared}
-use Rattle.automaton.specs.Exploration.{Filled, Explored, BuiltAutomaton}
+use Rattle.automaton.specs.inner.Exploration.{Filled, Explored, BuiltAutomaton}
 use Rattle.automaton.proofs.BitLaws.{one-shifted}
 use Rattle.automaton.proofs.StepLaws.{by-one}
 use Rattle.automaton.proofs.Meaning.{run-accepts}

@@ -26,7 +26,7 @@ use Rattle.automaton.specs.Limits.{stateLimit}
 use Rattle.automaton.specs.Alphabet.{badAlphabet, letterCount}
 use Rattle.automaton.specs.Discovery.{stateCount}
 use Rattle.automaton.specs.Construction.{CountOf, shortAutomaton, constructRefusal, Constructed}
-use Rattle.automaton.specs.Exploration.{WithinLimit, BeyondLimit}
+use Rattle.automaton.specs.inner.Exploration.{WithinLimit, BeyondLimit}
 use Rattle.automaton.proofs.ReadLaws.{count-of}
 
 -- the text of a formula counts its states

@@ -10,11 +10,11 @@ use native.Mathlib.Numerals.{one-add}
 use lib.ListN.{getD, length, length-append}
 use lib.Pow.{pow-mono}
 use Rattle.reader.specs.Formula.{Unary, Binary, Formula, constant, name, unary, neg, next, weak, eventually, always, binary, until, release, conj, disj, impl, withUnary, withBinary, operators}
-use Rattle.reader.specs.Nodes.{unaryCode, binaryCode, wordOf}
+use Rattle.reader.specs.inner.Nodes.{unaryCode, binaryCode, wordOf}
 use Rattle.automaton.specs.Bits.{bit, word, gather}
 use Rattle.automaton.specs.Valuation.{value, coords, ends, present, endVector}
-use Rattle.automaton.specs.Representation.{Represents}
-use Rattle.automaton.specs.Nodes.{Node, at-constant, at-name, at-unary, at-binary, kindOf, Evaluated, temporalKind, coordinateOf, Located, ownerOf, owner, endOf, endBit, Makes}
+use Rattle.automaton.specs.inner.Representation.{Represents}
+use Rattle.automaton.specs.inner.Nodes.{Node, at-constant, at-name, at-unary, at-binary, kindOf, Evaluated, temporalKind, coordinateOf, Located, ownerOf, owner, endOf, endBit, Makes}
 use Rattle.automaton.proofs.BitLaws.{word-lt, word-ext}
 use Rattle.reader.proofs.NodeLaws.{size-pos}
 use Rattle.automaton.proofs.ValuationLaws.{coords-length, ends-length}

@@ -11,10 +11,10 @@ use lib.Bits.{bitAnd, bitOr, bitXor}
 use lib.ListN.{getD, set, length}
 use lib.Seq.{getD-set-same, getD-set-other}
 use Rattle.reader.specs.Formula.{Unary, Binary, Formula, constant, name, unary, neg, next, weak, eventually, always, binary, until, release, conj, disj, impl, withUnary, withBinary, operators}
-use Rattle.reader.specs.Nodes.{constantCode, unaryCode, binaryCode, wordOf}
+use Rattle.reader.specs.inner.Nodes.{constantCode, unaryCode, binaryCode, wordOf}
 use Rattle.automaton.specs.Bits.{bit, word}
 use Rattle.automaton.specs.Valuation.{value}
-use Rattle.automaton.specs.Nodes.{Node, at-constant, at-name, at-unary, at-binary, kindOf, leftOf, argumentOf, allBits, nodeWord, Evaluated}
+use Rattle.automaton.specs.inner.Nodes.{Node, at-constant, at-name, at-unary, at-binary, kindOf, leftOf, argumentOf, allBits, nodeWord, Evaluated}
 use Rattle.automaton.proofs.BitLaws.{word-and, word-or, word-not, same-true, same-false, bit-word}
 use Rattle.automaton.proofs.NodeLaws.{kind-field, left-field, argument-field, binary-small}
 

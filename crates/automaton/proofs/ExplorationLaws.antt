@@ -13,7 +13,7 @@ use Rattle.reader.specs.Formula.{Formula}
 use Rattle.automaton.specs.Limits.{stateLimit}
 use Rattle.automaton.specs.State.{start, after}
 use Rattle.automaton.specs.Discovery.{position, discovered, states, stateCount, target}
-use Rattle.automaton.specs.Exploration.{Filled, Progress, Explored, StateExplored}
+use Rattle.automaton.specs.inner.Exploration.{Filled, Progress, Explored, StateExplored}
 use Rattle.automaton.proofs.ArrayLaws.{stored-more}
 use Rattle.automaton.proofs.PositionLaws.{position-le}
 use Rattle.automaton.proofs.DiscoveryLaws.{looked, discovered-old, discovered-new, discovered-grows, discovered-stays, quotient-lt, number-kept, number-new, closed}

@@ -15,7 +15,7 @@ use lib.Seq.{getD-set-same, getD-set-other, drop-cons}
 use Rattle.reader.specs.Formula.{Formula, operators}
 use Rattle.automaton.specs.Bits.{one}
 use Rattle.automaton.specs.Valuation.{present, vectors}
-use Rattle.automaton.specs.Representation.{Tabulates}
+use Rattle.automaton.specs.inner.Representation.{Tabulates}
 
 -- the elements from s on are f's up to i, and x, which is f's, is stored at s + i
 pub row-more : (f : ℕ → ℕ) (l : List ℕ) (s i x : ℕ) → s + i < length l → x ≡ f i → ((k : ℕ) → k < i → getD l (s + k) 0 ≡ f k) → (k : ℕ) → k < i + 1 → getD (set l (s + i) x) (s + k) 0 ≡ f k

@@ -15,7 +15,7 @@ use Rattle.automaton.specs.Bits.{bit}
 use Rattle.automaton.specs.Trace.{Satisfies}
 use Rattle.automaton.specs.Valuation.{value, coords, ends, vectors, present, endVector}
 use Rattle.automaton.specs.State.{start, after, accepts}
-use Rattle.automaton.specs.Fold.{valuation, run}
+use Rattle.automaton.specs.inner.Fold.{valuation, run}
 use Rattle.automaton.proofs.BitLaws.{bit-word, bit-gather}
 use Rattle.automaton.proofs.StepLaws.{by-test, by-true}
 use Rattle.automaton.proofs.ValuationLaws.{Right, value-holds, valuation-lt, valuation-right}

@@ -8,10 +8,10 @@ use lib.ListN.{drop, getD, length, length-append, List·getD-append}
 use lib.Seq.{getD-append-add, sets, sets-eq}
 use Rattle.reader.specs.Limits.{nodeLimit, operatorLimit}
 use Rattle.reader.specs.Formula.{Unary, neg, next, weak, eventually, always, Binary, until, release, conj, disj, impl, Formula, constant, name, unary, binary, size, withUnary, withBinary, operators}
-use Rattle.reader.specs.Nodes.{unaryCode, binaryCode, wordOf, code, nodesOf}
-use Rattle.automaton.specs.Representation.{Represents}
+use Rattle.reader.specs.inner.Nodes.{unaryCode, binaryCode, wordOf, code, nodesOf}
+use Rattle.automaton.specs.inner.Representation.{Represents}
 use Rattle.reader.proofs.NodeLaws.{size-pos, code-length}
-use Rattle.automaton.specs.Nodes.{Node, at-constant, at-name, at-unary, at-binary, kindOf, leftOf, argumentOf}
+use Rattle.automaton.specs.inner.Nodes.{Node, at-constant, at-name, at-unary, at-binary, kindOf, leftOf, argumentOf}
 
 -- ---- the fields of a word
 module _ (kind left argument : ℕ) (small : kind < 256) (near : left < 256) where

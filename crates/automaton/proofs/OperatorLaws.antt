@@ -11,10 +11,10 @@ use lib.Dec.{leb}
 use lib.ListN.{getD, set, length}
 use lib.Seq.{getD-set-same, getD-set-other}
 use Rattle.reader.specs.Formula.{Unary, Binary, Formula, constant, name, unary, neg, next, weak, eventually, always, binary, until, release, conj, disj, impl, size, withUnary, withBinary, operators}
-use Rattle.reader.specs.Nodes.{constantCode, nameCode, unaryCode, binaryCode, wordOf}
+use Rattle.reader.specs.inner.Nodes.{constantCode, nameCode, unaryCode, binaryCode, wordOf}
 use Rattle.automaton.specs.Bits.{one}
-use Rattle.automaton.specs.Representation.{Represents}
-use Rattle.automaton.specs.Nodes.{Node, at-constant, at-name, at-unary, at-binary, kindOf, argumentOf, temporalKind, isTemporal, operatorsIn, coordinateOf, Located}
+use Rattle.automaton.specs.inner.Representation.{Represents}
+use Rattle.automaton.specs.inner.Nodes.{Node, at-constant, at-name, at-unary, at-binary, kindOf, argumentOf, temporalKind, isTemporal, operatorsIn, coordinateOf, Located}
 use Rattle.reader.proofs.NodeLaws.{size-pos}
 use Rattle.automaton.proofs.NodeLaws.{kind-field, argument-field, unary-small, binary-small, root-node}
 

@@ -13,11 +13,11 @@ use Rattle.reader.specs.Limits.{nodeLimit}
 use Rattle.reader.specs.Formula.{Formula, size, operators}
 use Rattle.reader.specs.Marks.{kindIn, ruleKind}
 use Rattle.reader.specs.Reading.{ReadingOf, IsGood}
-use Rattle.reader.specs.Nodes.{Written, nodesOf}
+use Rattle.reader.specs.inner.Nodes.{Written, nodesOf}
 use Rattle.reader.proofs.Unambiguous.{one-formula, never-both, some-reading}
 use Rattle.automaton.specs.Alphabet.{letterCount}
 use Rattle.automaton.specs.Discovery.{stateCount}
-use Rattle.automaton.specs.Representation.{Represents}
+use Rattle.automaton.specs.inner.Representation.{Represents}
 use Rattle.automaton.specs.Construction.{CountOf}
 use Rattle.automaton.proofs.NodeLaws.{written-represents}
 

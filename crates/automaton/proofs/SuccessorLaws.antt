@@ -10,7 +10,7 @@ use Rattle.reader.specs.Formula.{Formula, operators}
 use Rattle.automaton.specs.Bits.{bit, word}
 use Rattle.automaton.specs.Valuation.{present, vectors}
 use Rattle.automaton.specs.State.{after}
-use Rattle.automaton.specs.Representation.{Tabulates}
+use Rattle.automaton.specs.inner.Representation.{Tabulates}
 use Rattle.automaton.proofs.BitLaws.{word-ext}
 use Rattle.automaton.proofs.ValuationLaws.{present-lt}
 use Rattle.automaton.proofs.PairLaws.{present-even}

@@ -15,8 +15,8 @@ use Rattle.automaton.specs.Bits.{bit}
 use Rattle.automaton.specs.Valuation.{present, vectors}
 use Rattle.automaton.specs.State.{after}
 use Rattle.automaton.specs.Discovery.{position, discovered, target}
-use Rattle.automaton.specs.Representation.{Tabulates, SameRow, Twins}
-use Rattle.automaton.specs.Exploration.{Filled, Progress}
+use Rattle.automaton.specs.inner.Representation.{Tabulates, SameRow, Twins}
+use Rattle.automaton.specs.inner.Exploration.{Filled, Progress}
 use Rattle.automaton.proofs.BitLaws.{word-ext}
 use Rattle.automaton.proofs.PairLaws.{present-even}
 use Rattle.automaton.proofs.DiscoveryLaws.{looked, discovered-old, closed}

@@ -14,7 +14,7 @@ use Rattle.reader.specs.Formula.{Formula, constant, name, unary, neg, next, wea
 use Rattle.automaton.specs.Bits.{bit, gather}
 use Rattle.automaton.specs.Trace.{Holds}
 use Rattle.automaton.specs.Valuation.{value, coords, ends, vectors, present, endVector}
-use Rattle.automaton.specs.Fold.{valuation}
+use Rattle.automaton.specs.inner.Fold.{valuation}
 use Rattle.automaton.proofs.BitLaws.{gather-lt, bit-gather}
 use Rattle.automaton.proofs.StepLaws.{T-and, T-or, T-not, T-impl, by-test, unroll, no-until, until-step, release-step, eventually-step, always-step}
 

@@ -3,7 +3,7 @@ ghost use mathlib.Core.Path.{_≡_};
 ghost use Prim.Native.Nat.{_-_, _≤_};
 ghost use lib.ListN.{getD};
 ghost use Rattle.automaton.specs.Bits.{bit, word};
-ghost use Rattle.automaton.specs.Nodes.{nodeWord, Evaluated};
+ghost use Rattle.automaton.specs.inner.Nodes.{nodeWord, Evaluated};
 use crate::bits::test_bit;
 use crate::coordinates::coordinate;
 

@@ -4,7 +4,7 @@ ghost use Prim.Native.Nat.{_≤_};
 ghost use Rattle.reader.specs.Formula.{Formula};
 ghost use Rattle.automaton.specs.Bits.{word};
 ghost use Rattle.automaton.specs.Valuation.{value};
-ghost use Rattle.automaton.specs.Representation.{Represents};
+ghost use Rattle.automaton.specs.inner.Representation.{Represents};
 use crate::bits::set_bit;
 use crate::valuation::root_value;
 

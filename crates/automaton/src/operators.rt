@@ -3,8 +3,8 @@ ghost use mathlib.Core.Path.{_≡_};
 ghost use Prim.Native.Nat.{_≤_, _<_};
 ghost use Rattle.reader.specs.Formula.{Formula, operators};
 ghost use Rattle.automaton.specs.Bits.{one};
-ghost use Rattle.automaton.specs.Representation.{Represents};
-ghost use Rattle.automaton.specs.Nodes.{isTemporal, coordinateOf, Located};
+ghost use Rattle.automaton.specs.inner.Representation.{Represents};
+ghost use Rattle.automaton.specs.inner.Nodes.{isTemporal, coordinateOf, Located};
 
 // 1 for the node of a temporal operator, 0 for any other.
 fn operator_bit(node: usize) -> u64

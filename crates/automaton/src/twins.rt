@@ -3,7 +3,7 @@ ghost use mathlib.Core.Path.{_≡_};
 ghost use mathlib.Core.Bool.{true};
 ghost use Prim.Native.Nat.{_≤_, _<_};
 ghost use lib.ListN.{length};
-ghost use Rattle.automaton.specs.Representation.{SameRow, Twins};
+ghost use Rattle.automaton.specs.inner.Representation.{SameRow, Twins};
 
 // The number of slots.
 const SLOTS: usize = 1021;

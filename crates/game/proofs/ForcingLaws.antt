@@ -5,8 +5,8 @@ use mathlib.Core.Bool.{Bool, true, false}
 use mathlib.Core.Logic.{_⊎_}
 use Prim.Native.Nat.{ℕ, _+_, _*_, _<_}
 use Rattle.game.specs.Arena.{Arena, next}
-use Rattle.game.specs.Rank.{Valid, Safe, Forces}
-use Rattle.game.specs.Solver.{Favorable}
+use Rattle.game.specs.inner.Rank.{Valid, Safe, Forces}
+use Rattle.game.specs.inner.Solver.{Favorable}
 use Rattle.game.proofs.IndexLaws.{at-facts}
 
 pub safe-map : (G : Arena) (player : Bool) (t : ℕ) {D E : Type 0} → (D → E) → Safe G player t D → Safe G player t E

@@ -11,8 +11,8 @@ use lib.ListN.{length, getD}
 use Rattle.game.specs.Arena.{Arena, next, goal}
 use Rattle.game.specs.Play.{Step, entered, run, reaches, Along, count, Every, InRow}
 use Rattle.game.specs.Strategy.{systemByte, environmentByte, BySystem, ByEnvironment, Assumed, Failed, SystemWins, EnvironmentWins}
-use Rattle.game.specs.Rank.{judged, Safe, Falls}
-use Rattle.game.specs.Bytes.{AllowedOutput, AllowedInput}
+use Rattle.game.specs.inner.Rank.{judged, Safe, Falls}
+use Rattle.game.specs.inner.Bytes.{AllowedOutput, AllowedInput}
 use Rattle.reader.proofs.BoolLaws.{decided, clash, not-false-is-true, or-left, or-right}
 
 -- a play taken apart in two

@@ -8,8 +8,8 @@ use Prim.Native.Nat.{ℕ, _+_, _<_, _≤_}
 use native.Mathlib.Omega.{arith}
 use lib.ListN.{getD}
 use Rattle.game.specs.Arena.{Arena}
-use Rattle.game.specs.Rank.{Valid, Forces, Falls, Ranked, Ranking}
-use Rattle.game.specs.Solver.{everyRank, rankedBelow, Unranked, Favorable, Grows, Attraction, Promoted}
+use Rattle.game.specs.inner.Rank.{Valid, Forces, Falls, Ranked, Ranking}
+use Rattle.game.specs.inner.Solver.{everyRank, rankedBelow, Unranked, Favorable, Grows, Attraction, Promoted}
 use Rattle.game.proofs.CaseLaws.{zero-or, below-or}
 use Rattle.game.proofs.LimitLaws.{ranked-below, below-none}
 use Rattle.game.proofs.ForcingLaws.{forces-map}

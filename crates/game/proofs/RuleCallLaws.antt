@@ -32,10 +32,10 @@ use Rattle.game.specs.declared.answer.Answer.{Answer}
 use Rattle.game.specs.declared.answer.Answer.the-variants.{Refused}
 use Rattle.game.specs.Answer.{answerNumber, answerPlace, verdictOf}
 use Rattle.game.specs.Arena.{Arena, arena}
-use Rattle.game.specs.Rank.{Valid}
+use Rattle.game.specs.inner.Rank.{Valid}
 use Rattle.game.specs.Tables.{Tables, Verdict}
 use Rattle.game.specs.Rule.{Buffers, buffers, shortBuffers, ruleRefusal, RuleSolved}
-use Rattle.game.specs.RuleChecks.{Passed, RuleChecked}
+use Rattle.game.specs.inner.RuleChecks.{Passed, RuleChecked}
 use Rattle.game.proofs.AnswerLaws.{verdict-number, verdict-place}
 use Rattle.game.proofs.RuleLaws.{some-state, automaton-valid, can-keep, cannot-keep}
 

@@ -21,7 +21,7 @@ use Rattle.automaton.specs.Automaton.{walk, Automaton}
 use Rattle.game.specs.Arena.{Arena, arena, next, goal}
 use Rattle.game.specs.Play.{Step, Legal, entered, run, reaches, letters, Along}
 use Rattle.game.specs.Strategy.{BySystem, ByEnvironment, SystemWins, EnvironmentWins}
-use Rattle.game.specs.Rank.{Valid}
+use Rattle.game.specs.inner.Rank.{Valid}
 use Rattle.game.specs.Rule.{Satisfied, Can, Cannot}
 use Rattle.reader.proofs.BoolLaws.{on, clash, or-cases, or-true}
 use Rattle.game.proofs.IndexLaws.{letter-below}

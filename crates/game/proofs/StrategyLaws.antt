@@ -13,9 +13,9 @@ use borrow.Author.Tests.{eqb-true, eqb-false}
 use Rattle.automaton.specs.Limits.{stateLimit}
 use Rattle.game.specs.Arena.{Arena}
 use Rattle.game.specs.Strategy.{systemByte, environmentByte}
-use Rattle.game.specs.Rank.{Ranked, Ranking}
+use Rattle.game.specs.inner.Rank.{Ranked, Ranking}
 use Rattle.game.specs.Tables.{SystemState, EnvironmentState, Tables, Verdict, noMove}
-use Rattle.game.specs.Bytes.{AllowedOutput, AllowedInput, SystemByte, SystemFilled, EnvironmentFilled}
+use Rattle.game.specs.inner.Bytes.{AllowedOutput, AllowedInput, SystemByte, SystemFilled, EnvironmentFilled}
 use Rattle.reader.proofs.BoolLaws.{on, nonzero}
 use Rattle.game.proofs.IndexLaws.{row-below}
 use Rattle.game.proofs.PlayLaws.{system-wins, environment-wins}

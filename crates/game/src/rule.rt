@@ -5,7 +5,7 @@ ghost use Rattle.reader.specs.Limits.{tooLong};
 ghost use Rattle.automaton.specs.Alphabet.{badAlphabet};
 ghost use Rattle.game.specs.Arena.{isFair};
 ghost use Rattle.game.specs.Rule.{Buffers, buffers, shortBuffers, RuleSolved};
-ghost use Rattle.game.specs.RuleChecks.{RuleChecked};
+ghost use Rattle.game.specs.inner.RuleChecks.{RuleChecked};
 use crate::answer::Answer;
 use crate::answer::Mode;
 use crate::checks::game_of;

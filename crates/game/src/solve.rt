@@ -7,8 +7,8 @@ ghost use mathlib.Core.Path.{_≡_};
 ghost use mathlib.Core.Bool.{true, false};
 ghost use Prim.Native.Nat.{_<_, _≤_};
 ghost use lib.ListN.{length};
-ghost use Rattle.game.specs.Rank.{arenaOf, Valid, Ranking};
-ghost use Rattle.game.specs.Solver.{
+ghost use Rattle.game.specs.inner.Rank.{arenaOf, Valid, Ranking};
+ghost use Rattle.game.specs.inner.Solver.{
   rankedBelow,
   serving,
   FirstUnserved,

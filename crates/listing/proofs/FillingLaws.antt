@@ -10,7 +10,7 @@ use lib.ListN.{length, take, drop, set, length-set, drop-of-length-le, take-appe
 use lib.Seq.{set-out, take-suc-set, drop-set-lt, take-nil}
 use borrow.Author.Tests.{ltb-true, ltb-false}
 use Rattle.reader.proofs.BoolLaws.{on}
-use Rattle.listing.specs.Writing.{written, position}
+use Rattle.listing.specs.inner.Writing.{written, position}
 
 -- the output with the bytes from a position on, as far as they fit
 abbrev pub filled : List ℕ → ℕ → List ℕ → List ℕ

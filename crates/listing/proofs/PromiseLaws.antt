@@ -25,9 +25,9 @@ use Rattle.game.specs.Rule.{Buffers, buffers, shortBuffers, ruleRefusal, RuleSo
 use Rattle.game.proofs.AnswerLaws.{verdict-states}
 use Rattle.listing.specs.Listing.{listing, malformed}
 use Rattle.listing.specs.Promise.{lent, Listed}
-use Rattle.listing.specs.Rendering.{listingOf}
-use Rattle.listing.specs.Scan.{isRequest, isFairLine, lineEnd, conditionStart, conditionPart, rulePart, digitAt}
-use Rattle.listing.specs.Writing.{written, Writes}
+use Rattle.listing.specs.inner.Rendering.{listingOf}
+use Rattle.listing.specs.inner.Scan.{isRequest, isFairLine, lineEnd, conditionStart, conditionPart, rulePart, digitAt}
+use Rattle.listing.specs.inner.Writing.{written, Writes}
 use Rattle.listing.proofs.FillingLaws.{written-filled, position-least}
 use Rattle.listing.proofs.RequestLaws.{request-asks, asks-request}
 

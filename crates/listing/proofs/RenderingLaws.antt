@@ -12,10 +12,10 @@ use Rattle.reader.specs.Refusal.{numberOf, placeOf}
 use Rattle.game.specs.declared.answer.Answer.{Answer}
 use Rattle.game.specs.declared.answer.Answer.the-variants.{Can, Cannot, Refused}
 use Rattle.listing.specs.Decimal.{decimal}
-use Rattle.listing.specs.Rendering.{listingOf}
+use Rattle.listing.specs.inner.Rendering.{listingOf}
 use Rattle.listing.specs.Input.{newline, blank}
 use Rattle.listing.specs.Listing.{fields, goalMark, winnerFields, stateLine, stateLines, refusalLine, refusedWord, canWord, cannotWord, verdictLines}
-use Rattle.listing.specs.Writing.{Writes, Remains}
+use Rattle.listing.specs.inner.Writing.{Writes, Remains}
 use Rattle.listing.proofs.WritingLaws.{passed, finished, joined, outset}
 use native.Mathlib.Nat.{mul-le-mul}
 

@@ -12,7 +12,7 @@ use borrow.Author.Tests.{eq-eqb, eqb-true, lt-ltb, ltb-true, le-leb, leb-true}
 use Rattle.reader.proofs.BoolLaws.{on, and-true}
 use Rattle.listing.specs.Decimal.{digit}
 use Rattle.listing.specs.Input.{newline, blank, inputLimit, fairWord, stableWord, modeWord, Line, Asks}
-use Rattle.listing.specs.Scan.{lineLength, beginsWith, isDigit, digitLine, isFairLine, isStableLine, lineEnd, conditionStart, ruleStart, ruleEnd, hasTexts, hasMode, isRequest, conditionPart, rulePart, digitAt}
+use Rattle.listing.specs.inner.Scan.{lineLength, beginsWith, isDigit, digitLine, isFairLine, isStableLine, lineEnd, conditionStart, ruleStart, ruleEnd, hasTexts, hasMode, isRequest, conditionPart, rulePart, digitAt}
 use Rattle.listing.proofs.ScanLaws.{line-split, line-line, line-found, begins-split, begins-length, end-within}
 
 both : (a b : Bool) → a ≡ true → b ≡ true → (a && b) ≡ true

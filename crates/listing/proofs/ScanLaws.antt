@@ -13,7 +13,7 @@ use lib.Seq.{drop-cons}
 use borrow.Author.Tests.{eq-eqb, ne-eqb, eqb-true, eqb-false, lt-ltb, le-ltb, le-leb, lt-leb}
 use Rattle.reader.proofs.BoolLaws.{on}
 use Rattle.listing.specs.Input.{newline, blank, inputLimit, Line}
-use Rattle.listing.specs.Scan.{lineLength, beginsWith, lineEnd, isDigit, digitLine, ruleEnd, hasTexts, hasMode, conditionStart, isRequest}
+use Rattle.listing.specs.inner.Scan.{lineLength, beginsWith, lineEnd, isDigit, digitLine, ruleEnd, hasTexts, hasMode, conditionStart, isRequest}
 
 -- a conjunction by its first part
 and-first : (a b : Bool) → a ≡ false → (a && b) ≡ false

@@ -7,7 +7,7 @@ use native.Mathlib.Numerals.{add-one}
 use lib.ListN.{length, getD, set, drop, length-set, drop-of-length-le}
 use lib.Seq.{set-out, drop-cons}
 use borrow.Author.Tests.{lt-ltb, le-ltb}
-use Rattle.listing.specs.Writing.{next, written, position, Writes, Remains}
+use Rattle.listing.specs.inner.Writing.{next, written, position, Writes, Remains}
 
 pub length-written : (bytes out : List ℕ) (at : ℕ) → length (written out at bytes) ≡ length out
 unfolding written

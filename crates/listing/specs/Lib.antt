@@ -3,6 +3,4 @@ pub mod Input
 pub mod Listing
 pub mod Promise
 pub mod Agreement
-pub mod Writing
-pub mod Scan
-pub mod Rendering
+pub mod inner

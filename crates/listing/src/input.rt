@@ -4,7 +4,7 @@ ghost use mathlib.Core.Bool.{true, cond};
 ghost use Prim.Native.Nat.{_≤_, _<_};
 ghost use lib.ListN.{length, getD, drop};
 ghost use Rattle.game.specs.Arena.{isFair};
-ghost use Rattle.listing.specs.Scan.{beginsWith, lineEnd, isDigit, digitAt, digitLine, isFairLine, isStableLine, conditionStart, hasTexts, isRequest};
+ghost use Rattle.listing.specs.inner.Scan.{beginsWith, lineEnd, isDigit, digitAt, digitLine, isFairLine, isStableLine, conditionStart, hasTexts, isRequest};
 use game::answer::Mode;
 
 // Whether the text from a place on begins with a word.

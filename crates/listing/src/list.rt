@@ -3,7 +3,7 @@ ghost use mathlib.Core.Path.{_≡_};
 ghost use mathlib.Core.Bool.{true};
 ghost use Rattle.game.specs.Rule.{buffers, RuleSolved};
 ghost use Rattle.listing.specs.Promise.{lent, Listed};
-ghost use Rattle.listing.specs.Scan.{isRequest, isFairLine, digitAt, conditionStart, conditionPart, rulePart};
+ghost use Rattle.listing.specs.inner.Scan.{isRequest, isFairLine, digitAt, conditionStart, conditionPart, rulePart};
 use crate::input::condition_start;
 use crate::input::digit_at;
 use crate::input::is_request;

@@ -1,7 +1,7 @@
 // Writing bytes, words and numbers into an output.
 ghost use mathlib.Core.List.{[], _∷_};
 ghost use Rattle.listing.specs.Decimal.{decimal};
-ghost use Rattle.listing.specs.Writing.{Writes};
+ghost use Rattle.listing.specs.inner.Writing.{Writes};
 
 // Writes a byte where there is room, and returns the position after it.
 pub(crate) fn put(out: &mut [u8], at: usize, b: u8) -> usize

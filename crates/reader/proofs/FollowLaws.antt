@@ -8,7 +8,7 @@ use native.Mathlib.Omega.{arith}
 use Rattle.reader.specs.declared.marks.Kind.{Kind}
 use Rattle.reader.specs.declared.marks.Kind.the-variants.{Operand, Prefix, Infix, Open, Close, Other}
 use Rattle.reader.specs.Marks.{kindOf}
-use Rattle.reader.specs.Steps.{levelOf, firstLevel, CanFollow}
+use Rattle.reader.specs.inner.Steps.{levelOf, firstLevel, CanFollow}
 
 pub level-infix : (k : Kind) (l : ℕ) → levelOf k ≡ suc l → k ≡ Infix (suc l)
 level-infix Operand l e = absurd (omega arith)

@@ -11,9 +11,9 @@ use Rattle.reader.specs.declared.levels.Pos.{Pos}
 use Rattle.reader.specs.Formula.{Formula, binary, size, operators, withBinary}
 use Rattle.reader.specs.Marks.{kindOf, binaryOf}
 use Rattle.reader.specs.Grammar.{marks, Derives, lower, infixed}
-use Rattle.reader.specs.Nodes.{binaryCode, wordOf, code}
-use Rattle.reader.specs.Words.{nodeOf}
-use Rattle.reader.specs.Steps.{NotBlank, PastMark, LevelAt, levelOf, firstLevel, CanFollow, Readable, Parsed, Consumed}
+use Rattle.reader.specs.inner.Nodes.{binaryCode, wordOf, code}
+use Rattle.reader.specs.inner.Words.{nodeOf}
+use Rattle.reader.specs.inner.Steps.{NotBlank, PastMark, LevelAt, levelOf, firstLevel, CanFollow, Readable, Parsed, Consumed}
 use Rattle.reader.proofs.MarkLaws.{infix-tick}
 use Rattle.reader.proofs.NodeLaws.{size-binary, operators-binary, code-binary}
 use Rattle.reader.proofs.FollowLaws.{follow-level, follow-down, follow-infix}

@@ -15,9 +15,9 @@ use Rattle.reader.specs.declared.marks.Kind.{Kind}
 use Rattle.reader.specs.declared.marks.Kind.the-variants.{Operand, Prefix, Infix, Open, Close, Other}
 use Rattle.reader.specs.Formula.{Unary, neg, next, weak, eventually, always, Binary, until, release, conj, disj, impl, constant, name, size, withUnary, withBinary, operators}
 use Rattle.reader.specs.Marks.{amongOf, kindOf, isTemporal, allowedBy, kindIn, operandOf, unaryOf, binaryOf}
-use Rattle.reader.specs.Nodes.{wordOf, code}
-use Rattle.reader.specs.Words.{operandCode, operandArgument, nodeOf}
-use Rattle.reader.specs.Counts.{tick}
+use Rattle.reader.specs.inner.Nodes.{wordOf, code}
+use Rattle.reader.specs.inner.Words.{operandCode, operandArgument, nodeOf}
+use Rattle.reader.specs.inner.Counts.{tick}
 
 -- ---- membership
 

@@ -7,7 +7,7 @@ use native.Mathlib.Omega.{arith}
 use lib.ListN.{length, set, length-append}
 use lib.Seq.{sets}
 use Rattle.reader.specs.Formula.{Unary, Binary, Formula, constant, name, unary, binary, size, withUnary, withBinary, operators}
-use Rattle.reader.specs.Nodes.{unaryCode, binaryCode, wordOf, code}
+use Rattle.reader.specs.inner.Nodes.{unaryCode, binaryCode, wordOf, code}
 
 sets-append : (xs ys l : List ℕ) (i : ℕ) → sets l i (xs ++ ys) ≡ sets (sets l i xs) (i + length xs) ys
 sets-append [] ys l i = ap (λ (k : ℕ). sets l k ys) (omega arith)

@@ -17,7 +17,7 @@ use Rattle.reader.specs.declared.scan.Scanned.the-variants.{Whole, Stopp
 use Rattle.reader.specs.Formula.{Formula}
 use Rattle.reader.specs.Grammar.{marks, Derives, operand, prefix, parens, lower, infixed, Reads}
 use Rattle.reader.specs.Place.{Begins, IsPlace}
-use Rattle.reader.specs.Scan.{markStep, scanOf}
+use Rattle.reader.specs.inner.Scan.{markStep, scanOf}
 use Rattle.reader.proofs.MarkLaws.{InfixLevel}
 use Rattle.reader.proofs.ScanLaws.{on, stuck, marks-append, run, run-append, run-whole, run-stop}
 

@@ -13,9 +13,9 @@ use Rattle.reader.specs.declared.levels.Pos.{Pos}
 use Rattle.reader.specs.Formula.{Formula, unary, size, operators, withUnary}
 use Rattle.reader.specs.Marks.{kindOf, unaryOf}
 use Rattle.reader.specs.Grammar.{marks, Derives, operand, prefix, parens}
-use Rattle.reader.specs.Nodes.{unaryCode, wordOf, code}
-use Rattle.reader.specs.Words.{nodeOf}
-use Rattle.reader.specs.Steps.{NotBlank, PastMark, isOpen, isPrefix, CanFollow, Readable, Parsed, Consumed}
+use Rattle.reader.specs.inner.Nodes.{unaryCode, wordOf, code}
+use Rattle.reader.specs.inner.Words.{nodeOf}
+use Rattle.reader.specs.inner.Steps.{NotBlank, PastMark, isOpen, isPrefix, CanFollow, Readable, Parsed, Consumed}
 use Rattle.reader.proofs.MarkLaws.{operand-size, operand-operators, operand-code, prefix-tick}
 use Rattle.reader.proofs.NodeLaws.{size-pos, size-unary, operators-unary, code-unary}
 use Rattle.reader.proofs.TextLaws.{inside}

@@ -19,10 +19,10 @@ use Rattle.reader.specs.Marks.{kindOf, kindIn}
 use Rattle.reader.specs.Grammar.{marks, Derives, operand, prefix, parens, lower, infixed, Reads}
 use Rattle.reader.specs.Place.{IsPlace}
 use Rattle.reader.specs.Reading.{IsGood, ReadingOf}
-use Rattle.reader.specs.Nodes.{Written}
-use Rattle.reader.specs.Scan.{scanOf}
-use Rattle.reader.specs.Counts.{countOf}
-use Rattle.reader.specs.Steps.{PastBlanks, Readable, Consumed}
+use Rattle.reader.specs.inner.Nodes.{Written}
+use Rattle.reader.specs.inner.Scan.{scanOf}
+use Rattle.reader.specs.inner.Counts.{countOf}
+use Rattle.reader.specs.inner.Steps.{PastBlanks, Readable, Consumed}
 use Rattle.reader.proofs.MarkLaws.{same-kind, infix-level, zero-in, close-in}
 use Rattle.reader.proofs.SizeLaws.{count-marks, count-nodes, count-operators}
 use Rattle.reader.proofs.PlaceLaws.{accepted, place}

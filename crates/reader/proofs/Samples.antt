@@ -8,8 +8,8 @@ use Rattle.reader.specs.Formula.{Formula, eventually, next, conj, until,
 use Rattle.reader.specs.Marks.{kindIn, allowedBy, isTemporal, amongOf, kindOf, operandOf, unaryOf, binaryOf}
 use Rattle.reader.specs.Grammar.{marks, Reads, operand, prefix, parens, lower, infixed}
 use Rattle.reader.specs.Place.{IsPlace}
-use Rattle.reader.specs.Nodes.{code, nodesOf}
-use Rattle.reader.specs.Scan.{stepOf, scanOf}
+use Rattle.reader.specs.inner.Nodes.{code, nodesOf}
+use Rattle.reader.specs.inner.Scan.{stepOf, scanOf}
 use Rattle.reader.proofs.ReadingLaws.{place-of}
 
 -- F(a&Xa)

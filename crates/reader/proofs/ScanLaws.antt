@@ -16,7 +16,7 @@ use Rattle.reader.specs.declared.scan.Step.{Step}
 use Rattle.reader.specs.declared.scan.Step.the-variants.{Next, Stuck}
 use Rattle.reader.specs.declared.scan.Scanned.the-variants.{Whole, Stopped}
 use Rattle.reader.specs.Grammar.{marks}
-use Rattle.reader.specs.Scan.{markStep, stepOf, scanOf, follow, endOf}
+use Rattle.reader.specs.inner.Scan.{markStep, stepOf, scanOf, follow, endOf}
 
 -- a step, and what comes after it
 abbrev pub on : Step → (Bool → ℕ → Step) → Step

@@ -13,7 +13,7 @@ use borrow.Author.Tests.{eqb-true}
 use Rattle.reader.specs.Formula.{Formula, size, operators}
 use Rattle.reader.specs.Marks.{kindOf, isTemporal, amongOf}
 use Rattle.reader.specs.Grammar.{marks, Derives, operand, prefix, parens, lower, infixed}
-use Rattle.reader.specs.Counts.{tick, weightOf, countOf}
+use Rattle.reader.specs.inner.Counts.{tick, weightOf, countOf}
 use Rattle.reader.proofs.MarkLaws.{operand-size, operand-operators, prefix-tick, infix-tick}
 
 pub tick-small : (b : ℕ) → tick b ≤ 1

@@ -10,7 +10,7 @@ use Rattle.reader.specs.declared.marks.Kind.the-variants.{Operand, Prefi
 use Rattle.reader.specs.Formula.{Formula, operators}
 use Rattle.reader.specs.Marks.{kindOf, kindIn, isTemporal, allowedBy, unaryOf, binaryOf}
 use Rattle.reader.specs.Grammar.{Derives, operand, prefix, parens, lower, infixed}
-use Rattle.reader.specs.Counts.{tick}
+use Rattle.reader.specs.inner.Counts.{tick}
 use Rattle.reader.proofs.BoolLaws.{on}
 use Rattle.reader.proofs.MarkLaws.{same-kind, prefix-tick, infix-tick, operand-operators}
 

@@ -14,8 +14,8 @@ use Rattle.reader.specs.declared.marks.Kind.{Kind}
 use Rattle.reader.specs.declared.levels.Pos.{Pos}
 use Rattle.reader.specs.Marks.{kindOf, isTemporal}
 use Rattle.reader.specs.Grammar.{marks}
-use Rattle.reader.specs.Counts.{tick}
-use Rattle.reader.specs.Steps.{NotBlank, PastBlanks, PastMark, LevelAt, levelOf, firstLevel}
+use Rattle.reader.specs.inner.Counts.{tick}
+use Rattle.reader.specs.inner.Steps.{NotBlank, PastBlanks, PastMark, LevelAt, levelOf, firstLevel}
 
 module _ (s : List ℕ) (at : ℕ) where
   pub mark-at : at < length s → (getD s at 0 ≡ 32 → ⊥) → marks (drop at s) ≡ getD s at 0 ∷ marks (drop (at + 1) s)

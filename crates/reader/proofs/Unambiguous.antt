@@ -24,8 +24,8 @@ use Rattle.reader.specs.Marks.{kindOf, kindIn}
 use Rattle.reader.specs.Grammar.{Derives, operand, prefix, parens, lower, infixed, Reads}
 use Rattle.reader.specs.Place.{Begins, IsPlace}
 use Rattle.reader.specs.Reading.{IsGood, ReadingOf}
-use Rattle.reader.specs.Scan.{scanOf}
-use Rattle.reader.specs.Steps.{CanFollow, firstLevel, levelOf}
+use Rattle.reader.specs.inner.Scan.{scanOf}
+use Rattle.reader.specs.inner.Steps.{CanFollow, firstLevel, levelOf}
 use Rattle.reader.proofs.FollowLaws.{follow-level, follow-down, follow-infix, follow-close}
 use Rattle.reader.proofs.ReadingLaws.{whole-alphabet, formula-of, place-of}
 

@@ -1,12 +1,8 @@
-pub mod Limits
 pub mod Formula
 pub mod Marks
 pub mod Grammar
 pub mod Place
+pub mod Limits
 pub mod Reading
-pub mod Nodes
 pub mod Refusal
-pub mod Words
-pub mod Scan
-pub mod Counts
-pub mod Steps
+pub mod inner

@@ -2,8 +2,8 @@
 ghost use mathlib.Core.Path.{_≡_};
 ghost use Rattle.reader.specs.declared.marks.Kind.the-variants.{Operand};
 ghost use Rattle.reader.specs.Marks.{amongOf, kindOf, isTemporal, allowedBy, unaryOf, binaryOf};
-ghost use Rattle.reader.specs.Nodes.{unaryCode, binaryCode};
-ghost use Rattle.reader.specs.Words.{operandCode, operandArgument};
+ghost use Rattle.reader.specs.inner.Nodes.{unaryCode, binaryCode};
+ghost use Rattle.reader.specs.inner.Words.{operandCode, operandArgument};
 
 // What a byte is in a text. An infix mark has its level: 1 for U and R, 2 for &, 3 for |, 4 for >.
 pub enum Kind {

@@ -3,7 +3,7 @@ ghost use mathlib.Core.Path.{_≡_};
 ghost use lib.ListN.{length};
 ghost use Rattle.reader.specs.Limits.{nodeLimit, tooLong};
 ghost use Rattle.reader.specs.Marks.{kindIn};
-ghost use Rattle.reader.specs.Nodes.{Written};
+ghost use Rattle.reader.specs.inner.Nodes.{Written};
 ghost use Rattle.reader.specs.Reading.{ReadingOf};
 use crate::levels::Pos;
 use crate::levels::read_implies;

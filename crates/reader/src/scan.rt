@@ -3,7 +3,7 @@ ghost use mathlib.Core.Path.{_≡_};
 ghost use mathlib.Core.Bool.{true};
 ghost use Prim.Native.Nat.{_+_, _<_, _^_};
 ghost use Rattle.reader.specs.Marks.{kindIn};
-ghost use Rattle.reader.specs.Scan.{markStep, stepOf, scanOf};
+ghost use Rattle.reader.specs.inner.Scan.{markStep, stepOf, scanOf};
 use crate::marks::Kind;
 use crate::marks::allowed;
 use crate::marks::kind_of;

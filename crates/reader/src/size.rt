@@ -2,7 +2,7 @@
 ghost use mathlib.Core.Path.{_≡_};
 ghost use Prim.Native.Nat.{_≤_};
 ghost use Rattle.reader.specs.Marks.{kindOf};
-ghost use Rattle.reader.specs.Counts.{tick, weightOf, countOf};
+ghost use Rattle.reader.specs.inner.Counts.{tick, weightOf, countOf};
 use crate::marks::Kind;
 use crate::marks::is_temporal;
 use crate::marks::kind_of;

@@ -14,7 +14,7 @@ use Rattle.automaton.specs.Bits.{one}
 use Rattle.automaton.specs.State.{accepts}
 use Rattle.automaton.specs.Discovery.{position, target, states, stateCount}
 use Rattle.automaton.specs.Automaton.{Automaton}
-use Rattle.automaton.specs.Exploration.{Filled}
+use Rattle.automaton.specs.inner.Exploration.{Filled}
 use Rattle.automaton.proofs.AutomatonLaws.{moved-at, automaton-holds}
 use Rattle.readings.specs.Lists.{listOf, transitionsOf, flagsOf}
 

@@ -7,7 +7,7 @@ use mathlib.Core.List.{List}
 use lib.Dec.{eqb, ltb, leb}
 use lib.ListN.{length, getD}
 use Rattle.game.specs.Arena.{Arena, next, goal, holds}
-use Rattle.game.specs.Rank.{judged}
+use Rattle.game.specs.inner.Rank.{judged}
 use Rattle.game.specs.Strategy.{systemByte, environmentByte}
 
 -- f passes at each number below n

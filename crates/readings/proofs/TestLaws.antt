@@ -19,8 +19,8 @@ use Rattle.automaton.specs.Alphabet.{letterOf, letterCount}
 use Rattle.automaton.specs.Bits.{bit}
 use Rattle.automaton.specs.Automaton.{Automaton}
 use Rattle.game.specs.Arena.{Arena, arena, next, goal, holds}
-use Rattle.game.specs.Rank.{judged, Safe, Falls}
-use Rattle.game.specs.Bytes.{AllowedOutput, AllowedInput}
+use Rattle.game.specs.inner.Rank.{judged, Safe, Falls}
+use Rattle.game.specs.inner.Bytes.{AllowedOutput, AllowedInput}
 use Rattle.game.specs.Strategy.{systemByte, environmentByte, SystemWins, EnvironmentWins}
 use Rattle.game.proofs.IndexLaws.{letter-below}
 use Rattle.game.proofs.PlayLaws.{system-wins, environment-wins}

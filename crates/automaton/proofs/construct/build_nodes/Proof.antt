@@ -6,7 +6,7 @@ use mathlib.Core.Path.{_≡_}
 use Prim.Native.Nat.{ℕ, suc, _+_, _≤_}
 use native.Mathlib.Omega.{arith}
 use Rattle.reader.specs.Formula.{Formula, operators}
-use Rattle.automaton.specs.Representation.{Represents}
+use Rattle.automaton.specs.inner.Representation.{Represents}
 use Rattle.automaton.proofs.construct.build_nodes.Statement.{statement}
 use Rattle.automaton.proofs.construct.build_nodes.Tie as tie
 

@@ -13,7 +13,7 @@ use Rattle.reader.proofs.RefusalLaws.{not-good}
 use Rattle.automaton.specs.Limits.{stateLimit}
 use Rattle.automaton.specs.Alphabet.{badAlphabet, letterCount}
 use Rattle.automaton.specs.Construction.{shortAutomaton}
-use Rattle.automaton.specs.Exploration.{BuiltAutomaton, WithinLimit, BeyondLimit}
+use Rattle.automaton.specs.inner.Exploration.{BuiltAutomaton, WithinLimit, BeyondLimit}
 use Rattle.automaton.proofs.AlphabetLaws.{inputs-fit, outputs-fit, LettersFit, letters-fit}
 use Rattle.automaton.proofs.ReadLaws.{Represented, read-represents}
 use Rattle.automaton.proofs.ConstructionLaws.{by-alphabet, by-length, by-buffer, by-reading, by-count, by-states, long-enough}

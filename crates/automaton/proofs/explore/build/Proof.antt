@@ -5,8 +5,8 @@ use native.Mathlib.Omega.{arith}
 use lib.Pow.{pow-mono}
 use borrow.Author.Needs.{needs}
 use Rattle.reader.specs.Formula.{Formula, operators}
-use Rattle.automaton.specs.Representation.{Tabulates}
-use Rattle.automaton.specs.Exploration.{Explored}
+use Rattle.automaton.specs.inner.Representation.{Tabulates}
+use Rattle.automaton.specs.inner.Exploration.{Explored}
 use Rattle.automaton.proofs.BitLaws.{one-shifted, half-few}
 use Rattle.automaton.proofs.AutomatonLaws.{built-within, built-beyond, vectors-shifted, start-made}
 use Rattle.automaton.proofs.explore.build.Statement.{statement}

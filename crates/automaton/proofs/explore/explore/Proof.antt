@@ -10,8 +10,8 @@ use lib.ListN.{getD, length, set, length-set}
 use Rattle.reader.specs.Formula.{Formula, operators}
 use Rattle.automaton.specs.Limits.{stateLimit}
 use Rattle.automaton.specs.State.{start}
-use Rattle.automaton.specs.Representation.{Tabulates}
-use Rattle.automaton.specs.Exploration.{Progress, StateExplored}
+use Rattle.automaton.specs.inner.Representation.{Tabulates}
+use Rattle.automaton.specs.inner.Exploration.{Progress, StateExplored}
 use Rattle.automaton.proofs.ExplorationLaws.{turn-none, turn-done, next-state}
 use borrow.Author.Needs.{needs}
 use Rattle.automaton.proofs.explore.explore.Statement.{statement}

@@ -10,8 +10,8 @@ use borrow.Author.Needs.{needs}
 use Rattle.reader.specs.Formula.{Formula, operators}
 use Rattle.automaton.specs.Limits.{stateLimit}
 use Rattle.automaton.specs.State.{after}
-use Rattle.automaton.specs.Representation.{Tabulates}
-use Rattle.automaton.specs.Exploration.{Progress}
+use Rattle.automaton.specs.inner.Representation.{Tabulates}
+use Rattle.automaton.specs.inner.Exploration.{Progress}
 use Rattle.automaton.proofs.ArrayLaws.{kept-more}
 use Rattle.automaton.proofs.ExplorationLaws.{Letter, letter-room, letter-position, letter-new, letter-old, letter-over, letters-done}
 use Rattle.automaton.proofs.TwinLaws.{twin-after, turn-twin}

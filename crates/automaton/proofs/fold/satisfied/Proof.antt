@@ -9,8 +9,8 @@ use lib.Seq.{drop-length}
 use Rattle.reader.specs.Formula.{Formula, operators}
 use Rattle.automaton.specs.Bits.{bit}
 use Rattle.automaton.specs.Valuation.{present}
-use Rattle.automaton.specs.Representation.{Represents}
-use Rattle.automaton.specs.Fold.{valuation}
+use Rattle.automaton.specs.inner.Representation.{Represents}
+use Rattle.automaton.specs.inner.Fold.{valuation}
 use Rattle.automaton.proofs.LoopLaws.{one-test, drop-last}
 use borrow.Author.Needs.{needs}
 use Rattle.automaton.proofs.fold.satisfied.Statement.{statement}

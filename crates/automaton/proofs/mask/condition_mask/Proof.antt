@@ -7,7 +7,7 @@ use lib.Pow.{pow-mono}
 use Rattle.reader.specs.Formula.{Formula}
 use Rattle.automaton.specs.Bits.{word}
 use Rattle.automaton.specs.Valuation.{value}
-use Rattle.automaton.specs.Representation.{Represents}
+use Rattle.automaton.specs.inner.Representation.{Represents}
 use Rattle.automaton.proofs.BitLaws.{word-step}
 use Rattle.automaton.proofs.LoopLaws.{set-lt}
 use borrow.Author.Needs.{needs}

@@ -5,7 +5,7 @@ use Prim.Native.Nat.{ℕ, suc, _+_, _-_, _*_, _≤_, _<_}
 use lib.ListN.{getD, length}
 use Rattle.reader.specs.Formula.{Formula, operators}
 use Rattle.automaton.specs.Valuation.{present}
-use Rattle.automaton.specs.Representation.{Represents}
+use Rattle.automaton.specs.inner.Representation.{Represents}
 use Rattle.automaton.proofs.CoordinateLaws.{present-from}
 use Rattle.automaton.proofs.LoopLaws.{rows-more, rows-tabulate}
 use borrow.Author.Needs.{needs}

@@ -4,7 +4,7 @@ use Prim.Native.Nat.{ℕ, _-_, _≤_}
 use mathlib.Core.Path.{_≡_, refl, subst}
 use native.Mathlib.Omega.{arith}
 use lib.ListN.{length, length-set}
-use Rattle.automaton.specs.Representation.{Twins}
+use Rattle.automaton.specs.inner.Representation.{Twins}
 use Rattle.automaton.proofs.TwinLaws.{twins-none, twins-more}
 use borrow.Author.Needs.{needs}
 use Rattle.automaton.proofs.twins.fill_twins.Statement.{statement}

@@ -6,7 +6,7 @@ use mathlib.Core.Bool.{true≢false}
 use native.Mathlib.Nat.{not-suc-le-zero}
 use native.Mathlib.Omega.{arith}
 use borrow.Author.Count.{below-more}
-use Rattle.automaton.specs.Representation.{SameRow}
+use Rattle.automaton.specs.inner.Representation.{SameRow}
 use borrow.Author.Needs.{needs}
 use Rattle.automaton.proofs.twins.same_row.Statement.{statement}
 use Rattle.automaton.proofs.twins.same_row.Tie as tie

@@ -4,7 +4,7 @@ use mathlib.Core.Path.{_≡_, refl, ap, _∙_}
 use Prim.Native.Nat.{ℕ, _-_, _≤_, _<_}
 use lib.ListN.{getD, length, length-set}
 use native.Mathlib.Nat.{not-suc-le-zero}
-use Rattle.automaton.specs.Nodes.{owner}
+use Rattle.automaton.specs.inner.Nodes.{owner}
 use Rattle.automaton.proofs.ArrayLaws.{stored-more}
 use borrow.Author.Needs.{needs}
 use Rattle.automaton.proofs.valuation.coordinate_words.Statement.{statement}

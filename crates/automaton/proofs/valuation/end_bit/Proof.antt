@@ -3,7 +3,7 @@ use mathlib.Core.Path.{sym, ap, _∙_}
 use Prim.Native.Nat.{ℕ}
 use lib.ListN.{getD}
 use Rattle.automaton.specs.Bits.{one}
-use Rattle.automaton.specs.Nodes.{kindOf, endOf, endBit}
+use Rattle.automaton.specs.inner.Nodes.{kindOf, endOf, endBit}
 use Rattle.automaton.proofs.CoordinateLaws.{end-suc}
 use borrow.Author.Needs.{needs}
 use Rattle.automaton.proofs.valuation.end_bit.Statement.{statement}

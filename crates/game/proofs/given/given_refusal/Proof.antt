@@ -7,8 +7,8 @@ use denote.Ref.{now}
 use Rattle.automaton.specs.Alphabet.{badAlphabet}
 use Rattle.game.specs.declared.arena.Game.{Game}
 use Rattle.game.specs.Arena.{Arena, arena}
-use Rattle.game.specs.Rank.{arenaOf}
-use Rattle.game.specs.Checks.{InRange}
+use Rattle.game.specs.inner.Rank.{arenaOf}
+use Rattle.game.specs.inner.Checks.{InRange}
 use Rattle.game.specs.Given.{badCount, laterRefusal}
 use Rattle.game.proofs.CheckLaws.{in-range}
 use Rattle.game.proofs.GivenLaws.{alphabet-refused, count-refused, refused-later}

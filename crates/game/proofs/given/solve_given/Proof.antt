@@ -13,7 +13,7 @@ use Rattle.game.specs.declared.arena.Game.{Game}
 use Rattle.game.specs.declared.answer.Answer.{Answer}
 use Rattle.game.specs.declared.answer.Answer.the-variants.{Refused}
 use Rattle.game.specs.Arena.{Arena, arena, isFair}
-use Rattle.game.specs.Rank.{arenaOf, Valid}
+use Rattle.game.specs.inner.Rank.{arenaOf, Valid}
 use Rattle.game.specs.Tables.{Tables, Verdict}
 use Rattle.game.specs.Answer.{verdictOf}
 use Rattle.game.specs.Given.{givenRefusal, Solved}

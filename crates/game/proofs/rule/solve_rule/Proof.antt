@@ -15,10 +15,10 @@ use Rattle.automaton.specs.Construction.{Constructed}
 use Rattle.game.specs.declared.arena.Game.{Game}
 use Rattle.game.specs.Answer.{verdictOf}
 use Rattle.game.specs.Arena.{Arena, arena, isFair}
-use Rattle.game.specs.Rank.{arenaOf, Valid}
+use Rattle.game.specs.inner.Rank.{arenaOf, Valid}
 use Rattle.game.specs.Tables.{Tables, Verdict}
 use Rattle.game.specs.Rule.{Buffers, buffers, RuleSolved}
-use Rattle.game.specs.RuleChecks.{RuleChecked}
+use Rattle.game.specs.inner.RuleChecks.{RuleChecked}
 use Rattle.game.proofs.RefusalLaws.{is-refused}
 use Rattle.game.proofs.RuleCallLaws.{refused-early, refused-late, valid, starts, tables-fit, answered}
 use Rattle.game.proofs.rule.solve_rule.Statement.{statement}

@@ -8,8 +8,8 @@ use borrow.Author.Needs.{needs}
 use lib.ListN.{length, replicate}
 use denote.Ref.{now}
 use Rattle.game.specs.Arena.{Arena}
-use Rattle.game.specs.Rank.{arenaOf}
-use Rattle.game.specs.Solver.{InnerRanks}
+use Rattle.game.specs.inner.Rank.{arenaOf}
+use Rattle.game.specs.inner.Solver.{InnerRanks}
 use Rattle.game.proofs.CountLaws.{rankedCount, count-bound, count-more}
 use Rattle.game.proofs.LimitLaws.{zeros}
 use Rattle.game.proofs.PassLaws.{no-ranks, passes-end}

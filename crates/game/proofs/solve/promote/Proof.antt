@@ -9,7 +9,7 @@ use native.Mathlib.Omega.{arith}
 use borrow.Author.Needs.{needs}
 use lib.ListN.{length, length-set}
 use denote.Ref.{now}
-use Rattle.game.specs.Solver.{Promoted}
+use Rattle.game.specs.inner.Solver.{Promoted}
 use Rattle.game.proofs.PromotionLaws.{promotion-starts, promotion-stays, promotion-gains, promotion-over}
 use Rattle.game.proofs.solve.promote.Statement.{statement}
 use Rattle.game.proofs.solve.promote.Tie as tie

@@ -8,8 +8,8 @@ use borrow.Author.Needs.{needs}
 use lib.ListN.{length, replicate}
 use denote.Ref.{now}
 use Rattle.game.specs.Arena.{Arena}
-use Rattle.game.specs.Rank.{arenaOf}
-use Rattle.game.specs.Solver.{Attraction}
+use Rattle.game.specs.inner.Rank.{arenaOf}
+use Rattle.game.specs.inner.Solver.{Attraction}
 use Rattle.game.proofs.CountLaws.{rankedCount, count-bound, count-more}
 use Rattle.game.proofs.LimitLaws.{zeros}
 use Rattle.game.proofs.RoundLaws.{OuterRanks, Certified, no-rounds, round-more, round-grows, rounds-end, ranking-fair, ranking-stable}

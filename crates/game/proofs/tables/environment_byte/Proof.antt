@@ -6,7 +6,7 @@ use mathlib.Core.Path.{refl}
 use lib.ListN.{getD}
 use denote.Ref.{now}
 use Rattle.game.specs.Arena.{Arena}
-use Rattle.game.specs.Rank.{arenaOf}
+use Rattle.game.specs.inner.Rank.{arenaOf}
 use Rattle.reader.proofs.BoolLaws.{positive}
 use Rattle.game.proofs.TableLaws.{no-input}
 use Rattle.game.proofs.tables.environment_byte.Statement.{statement}

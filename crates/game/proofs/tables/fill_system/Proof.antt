@@ -8,9 +8,9 @@ use Prim.Native.Nat.{ℕ, _*_, _-_, _/_, _%_, _<_, _≤_}
 use borrow.Author.Count.{below-none}
 use lib.ListN.{length, getD, length-set}
 use denote.Ref.{now}
-use Rattle.game.specs.Rank.{arenaOf}
+use Rattle.game.specs.inner.Rank.{arenaOf}
 use native.Mathlib.Nat.{div-lt-iff-lt-mul, mod-lt}
-use Rattle.game.specs.Bytes.{SystemByte}
+use Rattle.game.specs.inner.Bytes.{SystemByte}
 use Rattle.game.proofs.TableLaws.{fill-below, fill-rest}
 use Rattle.game.proofs.tables.fill_system.Statement.{statement}
 use Rattle.game.proofs.tables.fill_system.Tie as tie

@@ -6,8 +6,8 @@ use Prim.Native.Nat.{ℕ, _-_, _<_, _≤_}
 use borrow.Author.Count.{below-none, below-more}
 use denote.Ref.{now}
 use Rattle.game.specs.Arena.{Arena, next}
-use Rattle.game.specs.Rank.{arenaOf, Safe}
-use Rattle.game.specs.Bytes.{Below}
+use Rattle.game.specs.inner.Rank.{arenaOf, Safe}
+use Rattle.game.specs.inner.Bytes.{Below}
 use mathlib.Core.Bool.{true, false, false≢true, true≢false}
 use borrow.Author.Tests.{not-true, not-false}
 use Rattle.reader.proofs.BoolLaws.{clash}

@@ -5,7 +5,7 @@ use mathlib.Core.Path.{_≡_, sym, _∙_}
 use native.Mathlib.Omega.{arith}
 use denote.Ref.{now}
 use lib.ListN.{length, drop}
-use Rattle.listing.specs.Scan.{beginsWith}
+use Rattle.listing.specs.inner.Scan.{beginsWith}
 use Rattle.listing.proofs.ScanLaws.{begins-start, begins-short, begins-other, begins-more, begins-end}
 use borrow.Author.Needs.{needs}
 use Rattle.listing.proofs.input.begins_with.Statement.{statement}

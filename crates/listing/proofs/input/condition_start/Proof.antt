@@ -1,7 +1,7 @@
 -- `listing::input::condition_start` meets its contract: the word decides.
 -- Assumes nothing.
 use mathlib.Core.Path.{refl, sym, _∙_}
-use Rattle.listing.specs.Scan.{conditionStart}
+use Rattle.listing.specs.inner.Scan.{conditionStart}
 use borrow.Author.Needs.{needs}
 use Rattle.listing.proofs.input.condition_start.Statement.{statement}
 use Rattle.listing.proofs.input.condition_start.Tie as tie

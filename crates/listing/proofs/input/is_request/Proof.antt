@@ -8,7 +8,7 @@ use lib.ListN.{length}
 use denote.Ref.{now}
 use borrow.Author.Needs.{needs}
 use Rattle.reader.proofs.BoolLaws.{not-true→, not-false→}
-use Rattle.listing.specs.Scan.{digitLine, hasMode, hasTexts, conditionStart}
+use Rattle.listing.specs.inner.Scan.{digitLine, hasMode, hasTexts, conditionStart}
 use Rattle.listing.proofs.ScanLaws.{request-over, request-first, request-second, request-last}
 use Rattle.listing.proofs.RequestLaws.{digits-are, start-within}
 use Rattle.listing.proofs.input.is_request.Statement.{statement}

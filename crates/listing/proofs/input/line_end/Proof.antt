@@ -5,7 +5,7 @@ use mathlib.Core.Path.{_≡_, refl, sym, _∙_}
 use native.Mathlib.Omega.{arith}
 use denote.Ref.{now}
 use lib.ListN.{length}
-use Rattle.listing.specs.Scan.{lineEnd}
+use Rattle.listing.specs.inner.Scan.{lineEnd}
 use Rattle.listing.proofs.ScanLaws.{end-here, end-later, end-none}
 use borrow.Author.Needs.{needs}
 use Rattle.listing.proofs.input.line_end.Statement.{statement}

@@ -7,7 +7,7 @@ use denote.Ref.{now}
 use borrow.Author.Needs.{needs}
 use Rattle.reader.proofs.BoolLaws.{not-true→, not-false→}
 use Rattle.game.specs.Rule.{buffers}
-use Rattle.listing.specs.Scan.{isRequest}
+use Rattle.listing.specs.inner.Scan.{isRequest}
 use Rattle.listing.proofs.RequestLaws.{Digits, request-size}
 use Rattle.listing.proofs.PromiseLaws.{listed-refused, listed-answer, solved-states}
 use Rattle.listing.proofs.list.list_with.Statement.{statement}

@@ -6,7 +6,7 @@ use native.Mathlib.Omega.{arith}
 use denote.Ref.{now}
 use lib.ListN.{length}
 use Rattle.listing.specs.Listing.{stateLines}
-use Rattle.listing.specs.Writing.{Remains}
+use Rattle.listing.specs.inner.Writing.{Remains}
 use Rattle.listing.proofs.WritingLaws.{writes-length}
 use Rattle.listing.proofs.RenderingLaws.{states-start, states-more, states-end}
 use borrow.Author.Needs.{needs}

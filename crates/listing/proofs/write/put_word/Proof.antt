@@ -5,7 +5,7 @@ use mathlib.Core.Path.{_≡_, refl, _∙_}
 use native.Mathlib.Omega.{arith}
 use lib.ListN.{length, drop}
 use denote.Ref.{now}
-use Rattle.listing.specs.Writing.{Remains}
+use Rattle.listing.specs.inner.Writing.{Remains}
 use Rattle.listing.proofs.WritingLaws.{outset, writes-length, word-more, word-end}
 use borrow.Author.Needs.{needs}
 use Rattle.listing.proofs.write.put_word.Statement.{statement}

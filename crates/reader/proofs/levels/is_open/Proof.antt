@@ -1,7 +1,7 @@
 -- `reader::levels::is_open` meets its contract: each arm is a clause of `isOpen`. Assumes nothing.
 use borrow.Author.Needs.{needs}
 use mathlib.Core.Path.{sym, ap, _∙_}
-use Rattle.reader.specs.Steps.{isOpen}
+use Rattle.reader.specs.inner.Steps.{isOpen}
 use Rattle.reader.proofs.levels.is_open.Statement.{statement}
 use Rattle.reader.proofs.levels.is_open.Tie as tie
 

@@ -1,7 +1,7 @@
 -- `reader::levels::is_prefix` meets its contract: each arm is a clause of `isPrefix`. Assumes nothing.
 use borrow.Author.Needs.{needs}
 use mathlib.Core.Path.{sym, ap, _∙_}
-use Rattle.reader.specs.Steps.{isPrefix}
+use Rattle.reader.specs.inner.Steps.{isPrefix}
 use Rattle.reader.proofs.levels.is_prefix.Statement.{statement}
 use Rattle.reader.proofs.levels.is_prefix.Tie as tie
 

@@ -1,7 +1,7 @@
 -- `reader::levels::level_at` meets its contract: each arm returns what `levelOf` gives for its kind. Assumes nothing.
 use borrow.Author.Needs.{needs}
 use mathlib.Core.Path.{sym, ap}
-use Rattle.reader.specs.Steps.{levelOf}
+use Rattle.reader.specs.inner.Steps.{levelOf}
 use Rattle.reader.proofs.TextLaws.{level-in, level-end}
 use Rattle.reader.proofs.levels.level_at.Statement.{statement}
 use Rattle.reader.proofs.levels.level_at.Tie as tie

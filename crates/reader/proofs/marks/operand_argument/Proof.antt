@@ -3,7 +3,7 @@ use borrow.Author.Needs.{needs}
 use borrow.Author.Tests.{eq-eqb, ne-eqb, le-leb, lt-leb}
 use mathlib.Core.Logic.{⊎-elim}
 use native.Mathlib.Omega.{arith}
-use Rattle.reader.specs.Words.{operandArgument}
+use Rattle.reader.specs.inner.Words.{operandArgument}
 use Rattle.reader.proofs.MarkLaws.{operand-byte}
 use Rattle.reader.proofs.marks.operand_argument.Statement.{statement}
 use Rattle.reader.proofs.marks.operand_argument.Tie as tie

@@ -1,6 +1,6 @@
 -- `reader::marks::operand_kind` meets its contract: at each return the tests before it, put into `operandCode`, leave that number. Assumes nothing.
 use borrow.Author.Tests.{eq-eqb, ne-eqb}
-use Rattle.reader.specs.Words.{operandCode}
+use Rattle.reader.specs.inner.Words.{operandCode}
 use Rattle.reader.proofs.marks.operand_kind.Statement.{statement}
 use Rattle.reader.proofs.marks.operand_kind.Tie as tie
 

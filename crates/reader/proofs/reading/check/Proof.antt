@@ -9,7 +9,7 @@ use Rattle.reader.specs.declared.scan.Scanned.the-variants.{Whole}
 use Rattle.reader.specs.Limits.{tooLong}
 use Rattle.reader.specs.Marks.{kindIn}
 use Rattle.reader.specs.Reading.{ReadingOf}
-use Rattle.reader.specs.Scan.{scanOf}
+use Rattle.reader.specs.inner.Scan.{scanOf}
 use Rattle.reader.proofs.ReadingLaws.{long-reading, bad-reading, many-nodes-reading, many-operators-reading, good-reading}
 use Rattle.reader.proofs.reading.check.Statement.{statement}
 use Rattle.reader.proofs.reading.check.Tie as tie

@@ -1,7 +1,7 @@
 -- `reader::reading::read_into` meets its contract: the answer is that of `check`, and where it is good the reading functions write the nodes. Assumes nothing.
 use borrow.Author.Needs.{needs}
 use mathlib.Core.Path.{refl}
-use Rattle.reader.specs.Nodes.{Written}
+use Rattle.reader.specs.inner.Nodes.{Written}
 use Rattle.reader.proofs.ReadingLaws.{same-reading, ready, written}
 use Rattle.reader.proofs.reading.read_into.Statement.{statement}
 use Rattle.reader.proofs.reading.read_into.Tie as tie

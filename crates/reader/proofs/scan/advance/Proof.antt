@@ -3,7 +3,7 @@ use borrow.Author.Needs.{needs}
 use mathlib.Core.Path.{sym, _∙_}
 use borrow.Author.Tests.{eq-eqb, ne-eqb}
 use Rattle.reader.specs.Marks.{kindIn}
-use Rattle.reader.specs.Scan.{stepOf}
+use Rattle.reader.specs.inner.Scan.{stepOf}
 use Rattle.reader.proofs.scan.advance.Statement.{statement}
 use Rattle.reader.proofs.scan.advance.Tie as tie
 

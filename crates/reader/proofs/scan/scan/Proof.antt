@@ -8,7 +8,7 @@ use native.Mathlib.Omega.{arith}
 use lib.ListN.{length, getD, drop}
 use Rattle.reader.specs.declared.scan.Step.the-variants.{Next}
 use Rattle.reader.specs.Marks.{kindIn}
-use Rattle.reader.specs.Scan.{stepOf, scanOf, endOf}
+use Rattle.reader.specs.inner.Scan.{stepOf, scanOf, endOf}
 use Rattle.reader.proofs.ScanLaws.{step-depth, scan-end, scan-goes, scan-stops, end-open}
 use Rattle.reader.proofs.scan.scan.Statement.{statement}
 use Rattle.reader.proofs.scan.scan.Tie as tie

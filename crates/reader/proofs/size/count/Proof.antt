@@ -4,7 +4,7 @@ use mathlib.Core.Path.{_≡_}
 use Prim.Native.Nat.{_+_, _-_, _≤_, _<_}
 use native.Mathlib.Omega.{arith}
 use lib.ListN.{length, drop}
-use Rattle.reader.specs.Counts.{countOf}
+use Rattle.reader.specs.inner.Counts.{countOf}
 use Rattle.reader.proofs.SizeLaws.{count-at, count-end}
 use Rattle.reader.proofs.size.count.Statement.{statement}
 use Rattle.reader.proofs.size.count.Tie as tie

@@ -1,7 +1,7 @@
 -- `reader::size::tick_of` meets its contract, by the two cases of its test. Assumes nothing.
 use borrow.Author.Needs.{needs}
 use mathlib.Core.Path.{sym, _∙_}
-use Rattle.reader.specs.Counts.{tick}
+use Rattle.reader.specs.inner.Counts.{tick}
 use Rattle.reader.proofs.size.tick_of.Statement.{statement}
 use Rattle.reader.proofs.size.tick_of.Tie as tie
 

@@ -10,8 +10,8 @@ use Rattle.game.specs.declared.arena.Game.{Game}
 use Rattle.game.specs.declared.follow.Followed.{Followed}
 use Rattle.game.specs.declared.follow.Followed.the-variants.{Refused}
 use Rattle.game.specs.Arena.{Arena, arena}
-use Rattle.game.specs.Rank.{arenaOf}
-use Rattle.game.specs.Checks.{InRange}
+use Rattle.game.specs.inner.Rank.{arenaOf}
+use Rattle.game.specs.inner.Checks.{InRange}
 use Rattle.game.specs.Given.{badCount}
 use Rattle.game.specs.Follower.{laterFollowed, followed, FollowedBy}
 use Rattle.game.proofs.CheckLaws.{in-range}

@@ -10,7 +10,7 @@ use lib.ListN.{length}
 use denote.Ref.{now}
 use borrow.Author.Tests.{ltb-false}
 use Rattle.game.specs.Arena.{Arena}
-use Rattle.game.specs.Rank.{arenaOf}
+use Rattle.game.specs.inner.Rank.{arenaOf}
 use Rattle.game.specs.Given.{shortRead}
 use Rattle.game.specs.Follower.{shortStrategy}
 use Rattle.game.proofs.IndexLaws.{row-below}

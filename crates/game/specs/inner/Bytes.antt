@@ -1,5 +1,4 @@
 -- The bytes of the two tables as the players' ranks allow them: what the functions that fill the tables promise each other.
--- No promise of a call that the specification names rests on this file.
 -- Assumes nothing.
 use Prim.Native.Nat.{ℕ, _*_, _-_, _/_, _%_, _<_, _≤_}
 use mathlib.Core.Path.{_≡_}
@@ -8,7 +7,7 @@ use mathlib.Core.List.{List}
 use lib.ListN.{length, getD}
 use Rattle.automaton.specs.Limits.{stateLimit}
 use Rattle.game.specs.Arena.{Arena, next}
-use Rattle.game.specs.Rank.{Safe, Falls}
+use Rattle.game.specs.inner.Rank.{Safe, Falls}
 use Rattle.game.specs.Tables.{noMove}
 
 -- the largest rank that is allowed after a step from a state of rank `own`: a lower one at a judged input, and else no higher one where the ranks are steady

@@ -1,4 +1,4 @@
--- The listing over the three buffers that it reads. No promise of a call that the specification names rests on this file.
+-- The listing over the three buffers that it reads.
 -- Assumes nothing.
 use Prim.Native.Nat.{ℕ}
 use mathlib.Core.List.{List, []}

@@ -1,5 +1,4 @@
 -- What the functions below the calls hand to each other: the nodes of a formula, and the table of its valuations.
--- No promise of a call that the specification names rests on this file.
 -- Assumes nothing.
 use Prim.Native.Nat.{ℕ, _+_, _*_, _≤_, _<_}
 use mathlib.Core.Path.{_≡_}
@@ -7,7 +6,7 @@ use mathlib.Core.List.{List}
 use lib.ListN.{getD}
 use Rattle.reader.specs.Limits.{nodeLimit, operatorLimit}
 use Rattle.reader.specs.Formula.{Formula, size, operators}
-use Rattle.reader.specs.Nodes.{nodesOf}
+use Rattle.reader.specs.inner.Nodes.{nodesOf}
 use Rattle.automaton.specs.Valuation.{present, vectors}
 
 -- the first m words of the buffer are the nodes of the formula, which is within the limits

@@ -1,5 +1,4 @@
 -- The nodes and the temporal operators of a text, counted by its bytes.
--- No promise of a call that the specification names rests on this file.
 -- Assumes nothing.
 use Prim.Native.Nat.{ℕ, _+_}
 use mathlib.Core.Bool.{Bool, cond}

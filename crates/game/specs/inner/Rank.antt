@@ -1,5 +1,5 @@
 -- Ranks: the certificates by which a game is solved, a number for each state and player, each a statement about one step.
--- A player is true for the system and false for the environment. No promise of a call that the specification names rests on this file.
+-- A player is true for the system and false for the environment.
 -- Assumes nothing.
 use Prim.Native.Nat.{ℕ, _*_, _<_, _≤_}
 use mathlib.Core.Path.{_≡_}

@@ -1,5 +1,4 @@
 -- What the functions that explore the states of a formula hand back to each other and to the calls.
--- No promise of a call that the specification names rests on this file.
 -- Assumes nothing.
 use Prim.Native.Nat.{ℕ, suc, _+_, _*_, _≤_, _<_, min}
 use mathlib.Core.Path.{_≡_}

@@ -1,4 +1,4 @@
--- How the lines of an input are found: by the place of the next 0x0A. No promise of a call that the specification names rests on this file.
+-- How the lines of an input are found: by the place of the next 0x0A.
 -- Assumes nothing.
 use Prim.Native.Nat.{ℕ, suc, _+_, _-_}
 use mathlib.Core.Bool.{Bool, true, false, cond, _&&_}

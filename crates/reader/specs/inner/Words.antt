@@ -1,5 +1,4 @@
 -- The node that a mark of a text writes, by its byte: what the code computes, beside Nodes, which says it by the formula.
--- No promise of a call that the specification names rests on this file.
 -- Assumes nothing.
 use Prim.Native.Nat.{ℕ, _+_, _-_}
 use mathlib.Core.Bool.{cond}
@@ -7,7 +6,7 @@ use lib.Dec.{eqb, leb}
 use Rattle.reader.specs.declared.marks.Kind.{Kind}
 use Rattle.reader.specs.declared.marks.Kind.the-variants.{Operand, Prefix, Infix, Open, Close, Other}
 use Rattle.reader.specs.Marks.{unaryOf, binaryOf}
-use Rattle.reader.specs.Nodes.{unaryCode, binaryCode, wordOf}
+use Rattle.reader.specs.inner.Nodes.{unaryCode, binaryCode, wordOf}
 
 -- the kind of an operand's node: false, true, a name
 unfoldable pub operandCode : ℕ → ℕ

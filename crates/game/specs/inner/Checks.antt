@@ -1,5 +1,4 @@
 -- The sizes that the calls' own functions may rely on once i, o and n are in range.
--- No promise of a call that the specification names rests on this file.
 -- Assumes nothing.
 use Prim.Native.Nat.{ℕ, _^_, _<_, _≤_}
 use mathlib.Core.Bool.{Bool}

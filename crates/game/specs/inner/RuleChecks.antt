@@ -1,5 +1,4 @@
 -- What the rule call's tests come to before the automaton is built.
--- No promise of a call that the specification names rests on this file.
 -- Assumes nothing.
 use Prim.Native.Nat.{ℕ}
 use mathlib.Core.Path.{_≡_}

@@ -1,6 +1,5 @@
 -- The nodes of a formula as the functions below the calls read them: what a node stands for, its value for 64 valuations at once,
--- and which node a coordinate belongs to. The words themselves are those of the reader's specs/Nodes.antt.
--- No promise of a call that the specification names rests on this file.
+-- and which node a coordinate belongs to. The words themselves are those of the reader's specs/inner/Nodes.antt.
 -- Assumes nothing.
 use Prim.Native.Nat.{ℕ, zero, suc, _+_, _-_, _/_, _%_, _≤_, _<_}
 use mathlib.Core.Path.{_≡_}
@@ -10,7 +9,7 @@ use lib.Bits.{bitAnd, bitOr, bitXor}
 use lib.Dec.{eqb, leb}
 use lib.ListN.{getD}
 use Rattle.reader.specs.Formula.{Unary, Binary, Formula, constant, name, unary, binary, size, withUnary, withBinary, operators}
-use Rattle.reader.specs.Nodes.{constantCode, nameCode, unaryCode, binaryCode, wordOf}
+use Rattle.reader.specs.inner.Nodes.{constantCode, nameCode, unaryCode, binaryCode, wordOf}
 use Rattle.automaton.specs.Bits.{bit, one, word}
 use Rattle.automaton.specs.Valuation.{value, present}
 

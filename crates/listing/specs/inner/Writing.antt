@@ -1,4 +1,4 @@
--- Writing bytes into an output, from a position on. No promise of a call that the specification names rests on this file.
+-- Writing bytes into an output, from a position on.
 -- Assumes nothing.
 use Prim.Native.Nat.{ℕ, suc}
 use mathlib.Core.Path.{_≡_}

@@ -1,5 +1,4 @@
 -- Along a trace: the valuation of its first position, made from the end valuation with the last letter first, and the state after it.
--- No promise of a call that the specification names rests on this file.
 -- Assumes nothing.
 use Prim.Native.Nat.{ℕ}
 use mathlib.Core.List.{List, [], _∷_}

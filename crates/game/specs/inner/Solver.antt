@@ -1,6 +1,5 @@
 -- The solver's own contracts: the test on one step, the passes that give inner ranks and the rounds that give outer ranks.
 -- The outer ranks are the system's when fair and the environment's when stable; the inner ranks are the other player's, and are found anew in each round.
--- No promise of a call that the specification names rests on this file.
 -- Assumes nothing.
 use Prim.Native.Nat.{ℕ, _+_, _<_, _≤_}
 use mathlib.Core.Path.{_≡_}
@@ -9,7 +8,7 @@ use mathlib.Core.List.{List}
 use lib.Dec.{eqb, ltb}
 use lib.ListN.{getD}
 use Rattle.game.specs.Arena.{Arena, next, goal, lacks}
-use Rattle.game.specs.Rank.{judged, Forces}
+use Rattle.game.specs.inner.Rank.{judged, Forces}
 
 -- a limit above every rank
 abbrev pub everyRank : ℕ

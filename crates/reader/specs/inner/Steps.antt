@@ -1,5 +1,4 @@
 -- What the reading functions ask and promise, each about the text from a place on.
--- No promise of a call that the specification names rests on this file.
 -- Assumes nothing.
 use Prim.Native.Nat.{ℕ, _+_, _≤_, _<_}
 use mathlib.Core.Path.{_≡_}
@@ -13,8 +12,8 @@ use Rattle.reader.specs.declared.levels.Pos.{Pos}
 use Rattle.reader.specs.Formula.{Formula, size, operators}
 use Rattle.reader.specs.Marks.{kindOf}
 use Rattle.reader.specs.Grammar.{marks, Derives}
-use Rattle.reader.specs.Nodes.{code}
-use Rattle.reader.specs.Counts.{tick}
+use Rattle.reader.specs.inner.Nodes.{code}
+use Rattle.reader.specs.inner.Counts.{tick}
 
 -- no blank is at the place
 abbrev pub NotBlank : List ℕ → ℕ → Type 0

@@ -1,5 +1,5 @@
 -- The nodes of a formula as words in a buffer, operands before their operator: what the reader hands to the automaton.
--- A word holds a kind, the left operand and an argument. No promise of a call that the specification names rests on this file.
+-- A word holds a kind, the left operand and an argument.
 -- Assumes nothing.
 use Prim.Native.Nat.{ℕ, suc, _+_, _*_}
 use mathlib.Core.Path.{_≡_}

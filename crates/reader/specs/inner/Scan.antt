@@ -1,5 +1,4 @@
 -- One pass over a text, left to right: the step at each byte, and what the pass comes to.
--- No promise of a call that the specification names rests on this file.
 -- Assumes nothing.
 use Prim.Native.Nat.{ℕ, zero, suc}
 use mathlib.Core.Bool.{Bool, true, false, cond}

@@ -1,0 +1,66 @@
+//! README: the definitions that a reader has to believe stand in crates/*/specs, and those that only the private
+//! functions and the proofs use in specs/inner. No believed file uses an inner one, and every file is in the list
+//! of its folder.
+
+use std::collections::BTreeSet;
+use std::fs;
+use std::path::{Path, PathBuf};
+
+/// The folders `specs` of the crates.
+fn specs() -> Vec<PathBuf> {
+    let crates = Path::new(env!("CARGO_MANIFEST_DIR")).join("../crates");
+    let folders = fs::read_dir(crates).unwrap().map(|entry| entry.unwrap().path().join("specs"));
+    folders.filter(|folder| folder.is_dir()).collect()
+}
+
+/// The names of a folder's files of definitions.
+fn names(folder: &Path) -> BTreeSet<String> {
+    let files = fs::read_dir(folder).into_iter().flatten().map(|entry| entry.unwrap().path());
+    let files = files.filter(|path| path.extension().is_some_and(|end| end == "antt"));
+    files.map(|path| path.file_stem().unwrap().to_str().unwrap().into()).collect()
+}
+
+/// The modules that a root declares.
+fn declared(source: &str) -> BTreeSet<String> {
+    source.lines().filter_map(|line| line.strip_prefix("pub mod ")).map(str::to_string).collect()
+}
+
+/// The lines of a source, its comments left out, that name an inner module.
+fn inner_uses(source: &str) -> Vec<&str> {
+    let lines = source.lines().map(|line| line.split("--").next().unwrap());
+    lines.filter(|line| line.contains(".inner.") || line.contains(".inner ")).collect()
+}
+
+#[test]
+fn no_believed_file_uses_an_inner_one() {
+    for folder in specs() {
+        for name in names(&folder) {
+            let source = fs::read_to_string(folder.join(format!("{name}.antt"))).unwrap();
+            assert_eq!(inner_uses(&source), Vec::<&str>::new(), "{}: {name}", folder.display());
+        }
+    }
+}
+
+#[test]
+fn every_file_is_in_its_list() {
+    for folder in specs() {
+        let mut believed = names(&folder);
+        assert!(believed.remove("Lib"), "{}", folder.display());
+        assert_eq!(declared(&fs::read_to_string(folder.join("Lib.antt")).unwrap()), believed, "{}", folder.display());
+        let inner = names(&folder.join("inner"));
+        let list = fs::read_to_string(folder.join("inner.antt")).unwrap_or_default();
+        assert_eq!(declared(&list), inner, "{}: inner", folder.display());
+    }
+    assert!(specs().iter().map(|folder| names(&folder.join("inner")).len()).sum::<usize>() > 10);
+}
+
+#[test]
+fn a_use_of_an_inner_file_is_seen() {
+    let own = "-- a head\nuse Rattle.game.specs.inner.Rank.{judged}\n";
+    let other = "use Rattle.game.specs.inner.Rank as rank\n";
+    let inline = "f = Rattle.game.specs.inner.Rank.judged\n";
+    for source in [own, other, inline] {
+        assert_eq!(inner_uses(source).len(), 1, "{source}");
+    }
+    assert!(inner_uses("-- see specs.inner.Rank\nuse Rattle.game.specs.Arena.{Arena}\n").is_empty());
+}

@@ -1,4 +1,4 @@
--- Laws of the places of lines (specs/Scan.antt): where the next 0x0A is, and whether a text begins with a word.
+-- Laws of the places of lines (specs/inner/Scan.antt): where the next 0x0A is, and whether a text begins with a word.
 -- Assumes nothing.
 use Prim.Native.Nat.{ℕ, suc, _+_, _-_, _≤_, _<_}
 use mathlib.Core.Path.{_≡_, refl, sym, ap, _∙_}

@@ -21,8 +21,8 @@ use Rattle.game.specs.Strategy.{BySystem, ByEnvironment}
 use Rattle.game.specs.Tables.{Verdict}
 use Rattle.game.specs.Given.{Solved, GivenSolved}
 use Rattle.game.specs.Rule.{Buffers, Satisfied, Served, RuleSolved}
-use Rattle.game.specs.Way.{bySystem, byEnvironment, meet}
-use Rattle.game.specs.Endless.{first, Follows, CanEndless, Defeated, CannotEndless}
+use Rattle.game.specs.Way.{bySystem, byEnvironment, ordered, meet}
+use Rattle.game.specs.Endless.{first, Follows, Kept, CanEndless, Defeated, CannotEndless}
 use Rattle.game.specs.EndlessAnswer.{Satisfying, Reaching, Texts, arenaLeft, RuleEndless, GivenEndless}
 use Rattle.game.proofs.EndlessLaws.{first-long, first-take}
 use Rattle.game.proofs.WayLaws.{system-endless, environment-endless}
@@ -61,11 +61,15 @@ module _ (φ : Formula) (G : Arena) (automaton : Automaton φ (G .inputs * G .ou
       let e : take (s .0) (first f k) ≡ first f (s .0) = first-take f (s .0) k (omega (arith, s .2, first-long f k)) in
       (s .0, subst (Along G R 0) e (take-along G R 0 (first f k) (s .0) h), subst (Satisfies φ) (take-letters G (first f k) (s .0) ∙ ap (letters G) e) (s .3))
 
+  kept-rule : (σ : List ℕ) (f : ℕ → Step) → Kept G σ 0 (Reaching G 0) f → Kept G σ 0 (Satisfying φ G) f
+  kept-rule σ f w = satisfying (BySystem G σ) (λ s a b. b .0) f (w .0) (w .1) (w .2)
+
   can-rule : (fair : Bool) (σ : List ℕ) → CanEndless fair G σ 0 (Reaching G 0) → CanEndless fair G σ 0 (Satisfying φ G)
   can-rule fair σ x =
       record {
-        plays = λ f follows promised. let w = x .plays f follows promised in let z = satisfying (BySystem G σ) (λ s a b. b .0) f (w .0) (follows (w .0)) (w .1) in (z .0, z .2);
-        ways = λ α inputs promised. let w = x .ways α inputs promised in satisfying (BySystem G σ) (λ s a b. b .0) (meet α (bySystem G σ 0)) (w .0) (w .1) (w .2);
+        orders = λ y legal promised. kept-rule σ (meet (ordered y) (bySystem G σ 0)) (x .orders y legal promised);
+        ways = λ α legal promised. kept-rule σ (meet α (bySystem G σ 0)) (x .ways α legal promised);
+        plays = λ f follows promised. kept-rule σ f (x .plays f follows promised);
       }
 
   defeated-rule : (fair : Bool) (τ : List ℕ) (f : ℕ → Step) → Follows G (ByEnvironment G τ) 0 f → Defeated fair G (Reaching G 0) f → Defeated fair G (Satisfying φ G) f

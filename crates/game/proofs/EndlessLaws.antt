@@ -11,7 +11,7 @@ use lib.ListN.{length, take}
 use Rattle.game.specs.Arena.{Arena, holds, lacks}
 use Rattle.game.specs.Play.{Step, count, Every, InRow}
 use Rattle.game.specs.Strategy.{Assumed, Failed}
-use Rattle.game.specs.Endless.{first, Again, Finally, Promised, Unbroken}
+use Rattle.game.specs.Endless.{first, inputs, Again, Finally, Promised, Unbroken}
 use Rattle.reader.proofs.BoolLaws.{on, not-false→}
 use Rattle.game.proofs.CaseLaws.{below-or}
 use Rattle.game.proofs.Determined.{count-append}
@@ -90,21 +90,21 @@ module _ (c : ℕ → Bool) where
       subst (λ (p : List Step). count c (first (from (suc j) f) k) < count c p) (sym (first-append f (suc j) k))
       (omega (arith, count-append c (first f (suc j)) (first (from (suc j) f) k), counted f j e))
 
-  again-from : (f : ℕ → Step) → Again c f → (m : ℕ) → Again c (from m f)
+  again-from : (f : ℕ → Step) → Again c (inputs f) → (m : ℕ) → Again c (inputs (from m f))
   again-from f again m i =
       let w = again (m + i) in
       let e : w .0 ≡ m + (w .0 - m) = omega (arith, w .1) in
       (w .0 - m, omega (arith, w .1), subst (λ (a : Step). c (a .input) ≡ true) (ap f e ∙ sym (from-is m f (w .0 - m))) (w .2))
 
   -- what comes again and again comes n times in some beginning
-  often : (n : ℕ) (f : ℕ → Step) → Again c f → (k : ℕ) × (n ≤ count c (first f k))
+  often : (n : ℕ) (f : ℕ → Step) → Again c (inputs f) → (k : ℕ) × (n ≤ count c (first f k))
   often zero f again = (0, omega arith)
   often (suc n) f again =
       let s = again 0 in
       let w = often n (from (suc (s .0)) f) (again-from f again (suc (s .0))) in
       (suc (s .0) + w .0, omega (arith, w .1, count-behind f (s .0) (w .0) (s .2)))
 
-  finally-from : (f : ℕ → Step) (m : ℕ) → Finally c (from m f) → Finally c f
+  finally-from : (f : ℕ → Step) (m : ℕ) → Finally c (inputs (from m f)) → Finally c (inputs f)
   finally-from f m w = (
     m + w .0,
     λ j h.
@@ -113,7 +113,7 @@ module _ (c : ℕ → Bool) where
   )
 
 -- what fails fewer than b times in every beginning cannot fail to hold from some step on
-few-failures : (c d : ℕ → Bool) → ((x : ℕ) → c x ≡ false → d x ≡ true) → (b : ℕ) (f : ℕ → Step) → ((k : ℕ) → count d (first f k) < b) → (Finally c f → ⊥) → ⊥
+few-failures : (c d : ℕ → Bool) → ((x : ℕ) → c x ≡ false → d x ≡ true) → (b : ℕ) (f : ℕ → Step) → ((k : ℕ) → count d (first f k) < b) → (Finally c (inputs f) → ⊥) → ⊥
 few-failures c d o zero f few broken = let z = few 0 in omega arith
 few-failures c d o (suc b) f few broken =
     broken (
@@ -126,7 +126,7 @@ few-failures c d o (suc b) f few broken =
 
 module _ (G : Arena) where
   -- a promise that is kept for ever is met in some beginning
-  pub assumed : (fair : Bool) (f : ℕ → Step) → Promised fair G f → (k : ℕ) × Assumed fair G (first f k)
+  pub assumed : (fair : Bool) (f : ℕ → Step) → Promised fair G (inputs f) → (k : ℕ) × Assumed fair G (first f k)
   assumed true f again = often (holds G) (G .states) f again
   assumed false f always =
       let m = always .0 in
@@ -135,7 +135,7 @@ module _ (G : Arena) where
       (m + G .states, row-from (holds G) f m (G .states) (every-first (holds G) (from m f) held (G .states)))
 
   -- a promise that fails in no beginning is not broken
-  pub unbroken : (fair : Bool) (f : ℕ → Step) → ((k : ℕ) → Failed fair G (first f k) → ⊥) → Unbroken fair G f
+  pub unbroken : (fair : Bool) (f : ℕ → Step) → ((k : ℕ) → Failed fair G (first f k) → ⊥) → Unbroken fair G (inputs f)
   unbroken true f keeping = λ m.
       ⊎-elim
       (λ v. absurd (keeping (m + G .states) (row-from (lacks G) f m (G .states) v)))
@@ -146,6 +146,6 @@ module _ (G : Arena) where
       (λ k. below-or (count (lacks G) (first f k)) (G .states) (λ l. l) (λ l. absurd (keeping k l)))
 
   -- for who assumes that everything holds or does not hold, it is kept
-  pub not-broken : ((A : Type 0) → A ⊎ (A → ⊥)) → (fair : Bool) (f : ℕ → Step) → Unbroken fair G f → Promised fair G f
+  pub not-broken : ((A : Type 0) → A ⊎ (A → ⊥)) → (fair : Bool) (f : ℕ → Step) → Unbroken fair G (inputs f) → Promised fair G (inputs f)
   not-broken lem true f u = u
-  not-broken lem false f u = ⊎-elim (λ p. p) (λ n. absurd (u n)) (lem (Promised false G f))
+  not-broken lem false f u = ⊎-elim (λ p. p) (λ n. absurd (u n)) (lem (Promised false G (inputs f)))

@@ -1,17 +1,17 @@
 -- The play that a way, with any memory, makes with a strategy that wins: it follows the strategy, up to a goal where the strategy is the system's, and it is
 -- the only one. So winning from a state says of plays without end what specs/Endless.antt states.
 -- Assumes nothing.
-use Prim.Native.Nat.{ℕ, zero, suc, _<_}
-use mathlib.Core.Path.{_≡_, refl, sym, ap, _∙_}
+use Prim.Native.Nat.{ℕ, zero, suc, _≤_, _<_}
+use mathlib.Core.Path.{_≡_, refl, sym, ap, _∙_, subst}
 use mathlib.Core.Bool.{Bool, true, false}
 use mathlib.Core.List.{List, [], _∷_}
 use mathlib.Core.Logic.{_⊎_, ⊎-elim}
 use lib.ListN.{length}
-use Rattle.game.specs.Arena.{Arena, goal}
+use Rattle.game.specs.Arena.{Arena, goal, holds}
 use Rattle.game.specs.Play.{Step, entered, run, reaches, Along}
 use Rattle.game.specs.Strategy.{systemByte, environmentByte, BySystem, ByEnvironment, SystemWins, EnvironmentWins}
-use Rattle.game.specs.Way.{SystemWay, EnvironmentWay, Outputs, Inputs, bySystem, byEnvironment, meeting, systemAfter, environmentAfter, meet, Chosen}
-use Rattle.game.specs.Endless.{first, Follows, Promised, CanEndless, Defeated, CannotEndless}
+use Rattle.game.specs.Way.{SystemWay, EnvironmentWay, Outputs, Inputs, bySystem, byEnvironment, ordered, meeting, systemAfter, environmentAfter, meet, Chosen}
+use Rattle.game.specs.Endless.{first, inputs, Follows, Promised, Kept, CanEndless, Defeated, CannotEndless}
 use Rattle.game.specs.EndlessAnswer.{Reaching}
 use Rattle.reader.proofs.BoolLaws.{on, clash, or-left}
 use Rattle.game.proofs.Determined.{reaches-later, system-later, environment-later}
@@ -22,6 +22,19 @@ chosen-meet : (α : EnvironmentWay) (ω : SystemWay) (k : ℕ) → Chosen ω (fi
 unfolding first meet Chosen
 chosen-meet α ω zero = tt
 chosen-meet α ω (suc k) = (refl, chosen-meet (environmentAfter (meeting α ω) α) (systemAfter (meeting α ω) ω) k)
+
+-- the inputs of the play that a fixed order makes are the order
+input-ordered : (x : ℕ → ℕ) (ω : SystemWay) (j : ℕ) → meet (ordered x) ω j .input ≡ x j
+unfolding meet
+input-ordered x ω zero = refl
+input-ordered x ω (suc j) = input-ordered (λ i. x (suc i)) (systemAfter (meeting (ordered x) ω) ω) j
+
+-- so a promise that the order keeps is kept on the play
+promised-ordered : (fair : Bool) (G : Arena) (x : ℕ → ℕ) (ω : SystemWay) → Promised fair G x → Promised fair G (inputs (meet (ordered x) ω))
+promised-ordered true G x ω p = λ m.
+    let w = p m in
+    (w .0, w .1, subst (λ (z : ℕ). holds G z ≡ true) (sym (input-ordered x ω (w .0))) (w .2))
+promised-ordered false G x ω p = (p .0, λ j h. subst (λ (z : ℕ). holds G z ≡ true) (sym (input-ordered x ω j)) (p .1 j h))
 
 -- a step is what its numbers are
 same-step : (a : Step) (x y : ℕ) → a .input ≡ x → a .output ≡ y → a ≡ record { input = x; output = y }
@@ -62,14 +75,20 @@ module _ (G : Arena) where
         _⊎_.inr (suc (m .0), z .0, z .1))
         (system-made k (entered G s a) (environmentAfter a α) (λ past. legal (a ∷ past)) (system-later fair G σ s a h e w)))
 
+    -- whatever the environment does, it is beaten where it keeps its promise
+    system-ways : (s : ℕ) → SystemWins fair G σ s → (α : EnvironmentWay) → Inputs G α → Promised fair G (inputs (meet α (bySystem G σ s)))
+        → Kept G σ s (Reaching G s) (meet α (bySystem G σ s))
+    system-ways s w α legal promised =
+        let f = meet α (bySystem G σ s) in
+        let b = assumed G fair f promised in
+        ⊎-elim (λ l. (b .0, l, w .reaching (first f (b .0)) l (b .1))) (λ m. m) (system-made (b .0) s α legal w)
+
     pub system-endless : (s : ℕ) → SystemWins fair G σ s → CanEndless fair G σ s (Reaching G s)
     system-endless s w =
         record {
-          plays = λ f follows promised. let b = assumed G fair f promised in (b .0, w .reaching (first f (b .0)) (follows (b .0)) (b .1));
-          ways = λ α legal promised.
-              let f = meet α (bySystem G σ s) in
-              let b = assumed G fair f promised in
-              ⊎-elim (λ l. (b .0, l, w .reaching (first f (b .0)) l (b .1))) (λ m. m) (system-made (b .0) s α legal w);
+          orders = λ x legal promised. system-ways s w (ordered x) (λ past. legal (length past)) (promised-ordered fair G x (bySystem G σ s) promised);
+          ways = system-ways s w;
+          plays = λ f follows promised. let b = assumed G fair f promised in (b .0, follows (b .0), w .reaching (first f (b .0)) (follows (b .0)) (b .1));
         }
 
   module _ (fair : Bool) (τ : List ℕ) where

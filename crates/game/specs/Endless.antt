@@ -2,7 +2,7 @@
 -- A play without end has a step for each number; its beginnings are plays. The two promises of the environment are as the field states them:
 -- fair, the condition holds again and again; stable, from some step on it holds always.
 -- Assumes nothing.
-use Prim.Native.Nat.{ℕ, zero, suc, _≤_}
+use Prim.Native.Nat.{ℕ, zero, suc, _≤_, _<_}
 use mathlib.Core.Path.{_≡_}
 use mathlib.Core.Bool.{Bool, true, false}
 use mathlib.Core.List.{List, [], _∷_}
@@ -10,7 +10,7 @@ use lib.ListN.{length}
 use Rattle.game.specs.Arena.{Arena, holds}
 use Rattle.game.specs.Play.{Step, Along}
 use Rattle.game.specs.Strategy.{BySystem, ByEnvironment, Failed}
-use Rattle.game.specs.Way.{SystemWay, EnvironmentWay, Outputs, Inputs, bySystem, byEnvironment, meet, Chosen}
+use Rattle.game.specs.Way.{SystemWay, EnvironmentWay, Outputs, Inputs, bySystem, byEnvironment, ordered, meet, Chosen}
 
 -- the first k steps of a play without end
 unfoldable pub first : (ℕ → Step) → ℕ → List Step
@@ -21,38 +21,47 @@ first f (suc k) = f 0 ∷ first (λ j. f (suc j)) k
 abbrev pub Follows : Arena → (ℕ → Step → Type 0) → ℕ → (ℕ → Step) → Type 0
 Follows G R s f = (k : ℕ) → Along G R s (first f k)
 
--- steps whose input passes c come again and again: from every step on there is one
-abbrev pub Again : (ℕ → Bool) → (ℕ → Step) → Type 0
-Again c f = (m : ℕ) → (j : ℕ) × (m ≤ j) × (c (f j .input) ≡ true)
+-- the inputs of a play without end, which are an order of inputs: one for each step
+abbrev pub inputs : (ℕ → Step) → ℕ → ℕ
+inputs f j = f j .input
 
--- from some step on every step's input passes c
-abbrev pub Finally : (ℕ → Bool) → (ℕ → Step) → Type 0
-Finally c f = (m : ℕ) × ((j : ℕ) → m ≤ j → c (f j .input) ≡ true)
+-- in the order x, inputs that pass c come again and again: from every step on there is one
+abbrev pub Again : (ℕ → Bool) → (ℕ → ℕ) → Type 0
+Again c x = (m : ℕ) → (j : ℕ) × (m ≤ j) × (c (x j) ≡ true)
 
--- the environment's promise is kept on the play
-abbrev pub Promised : Bool → Arena → (ℕ → Step) → Type 0
-Promised true G f = Again (holds G) f
-Promised false G f = Finally (holds G) f
+-- from some step on every input passes c
+abbrev pub Finally : (ℕ → Bool) → (ℕ → ℕ) → Type 0
+Finally c x = (m : ℕ) × ((j : ℕ) → m ≤ j → c (x j) ≡ true)
+
+-- the environment's promise is kept by the order x
+abbrev pub Promised : Bool → Arena → (ℕ → ℕ) → Type 0
+Promised true G x = Again (holds G) x
+Promised false G x = Finally (holds G) x
 
 -- it is not broken. This logic does not assume that a thing holds or does not hold; a reader who does may read it as `Promised`
 -- (proofs/EndlessLaws.antt, `not-broken`), and only the stable mode needs that
-abbrev pub Unbroken : Bool → Arena → (ℕ → Step) → Type 0
-Unbroken true G f = Promised true G f
-Unbroken false G f = (Promised false G f → ⊥) → ⊥
+abbrev pub Unbroken : Bool → Arena → (ℕ → ℕ) → Type 0
+Unbroken true G x = Promised true G x
+Unbroken false G x = (Promised false G x → ⊥) → ⊥
 
--- "can": `Done` says of the beginning of a play that it does what it has to.
+-- a beginning of the play without end is done, by which `Done` says that it does what it has to, and up to there it follows the system's strategy: so the
+-- strategy had an output wherever one was needed
+abbrev pub Kept : Arena → List ℕ → ℕ → (List Step → Type 0) → (ℕ → Step) → Type 0
+Kept G σ s Done f = (k : ℕ) × Along G (BySystem G σ) s (first f k) × Done (first f k)
+
+-- "can"
 pub record CanEndless (fair : Bool) (G : Arena) (σ : List ℕ) (s : ℕ) (Done : List Step → Type 0) : Type 0 where
-  -- on every play without end that follows the system's strategy, and on which the environment keeps its promise, a beginning is done
-  pub plays : (f : ℕ → Step) → Follows G (BySystem G σ) s f → Promised fair G f → (k : ℕ) × Done (first f k)
-  -- whatever the environment does, with any memory: if it keeps its promise on the play that it makes with the strategy, a beginning of it is done, and up to
-  -- there the strategy had an output wherever one was needed
-  pub ways : (α : EnvironmentWay) → Inputs G α → Promised fair G (meet α (bySystem G σ s))
-      → (k : ℕ) × Along G (BySystem G σ) s (first (meet α (bySystem G σ s)) k) × Done (first (meet α (bySystem G σ s)) k)
+  -- whatever the order of inputs, without end, that keeps the environment's promise: on the play that it makes with the system's strategy a beginning is done
+  pub orders : (x : ℕ → ℕ) → ((j : ℕ) → x j < G .inputs) → Promised fair G x → Kept G σ s Done (meet (ordered x) (bySystem G σ s))
+  -- and whatever the environment does, with any memory and in sight of all outputs, if it keeps its promise on the play that it makes with the strategy
+  pub ways : (α : EnvironmentWay) → Inputs G α → Promised fair G (inputs (meet α (bySystem G σ s))) → Kept G σ s Done (meet α (bySystem G σ s))
+  -- and on every play without end that follows the strategy and on which the environment keeps its promise
+  pub plays : (f : ℕ → Step) → Follows G (BySystem G σ) s f → Promised fair G (inputs f) → Kept G σ s Done f
 
 -- no beginning of the play without end is ever done; the environment's promise is not broken on it, and none of its beginnings fails the assumption
 pub record Defeated (fair : Bool) (G : Arena) (Done : List Step → Type 0) (f : ℕ → Step) : Type 0 where
   pub never : (k : ℕ) → Done (first f k) → ⊥
-  pub promised : Unbroken fair G f
+  pub promised : Unbroken fair G (inputs f)
   pub keeping : (k : ℕ) → Failed fair G (first f k) → ⊥
 
 -- "cannot"

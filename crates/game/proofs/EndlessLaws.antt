@@ -11,7 +11,7 @@ use lib.ListN.{length, take}
 use Rattle.game.specs.Arena.{Arena, holds, lacks}
 use Rattle.game.specs.Play.{Step, count, Every, InRow}
 use Rattle.game.specs.Strategy.{Assumed, Failed}
-use Rattle.game.specs.Endless.{first, inputs, Again, Finally, Promised, Unbroken}
+use Rattle.game.specs.Endless.{first, inputs, Again, Finally, Promised, Omniscience, Honoured}
 use Rattle.reader.proofs.BoolLaws.{on, not-false→}
 use Rattle.game.proofs.CaseLaws.{below-or}
 use Rattle.game.proofs.Determined.{count-append}
@@ -122,6 +122,17 @@ few-failures c d o (suc b) f few broken =
           (λ e. absurd (few-failures c d o b (from (suc j) f) (λ k. omega (arith, few (suc j + k), count-behind d f j k (o (f j .input) e))) (λ w. broken (finally-from c f (suc j) w)))),
     )
 
+-- and holds from some step on, if a test passes somewhere or nowhere
+few-finally : Omniscience → (c d : ℕ → Bool) → ((x : ℕ) → d x ≡ false → c x ≡ true) → (b : ℕ) (f : ℕ → Step) → ((k : ℕ) → count d (first f k) < b) → Finally c (inputs f)
+few-finally omniscience c d o zero f few = absurd (let z = few 0 in let y : ⊥ = omega arith in y)
+few-finally omniscience c d o (suc b) f few =
+    ⊎-elim
+    (λ w.
+    finally-from c f (suc (w .0))
+    (few-finally omniscience c d o b (from (suc (w .0)) f) (λ k. omega (arith, few (suc (w .0) + k), count-behind d f (w .0) k (w .1)))))
+    (λ n. (0, λ j h. o (f j .input) (n j)))
+    (omniscience (λ j. d (f j .input)))
+
 -- ---- the two promises
 
 module _ (G : Arena) where
@@ -134,18 +145,20 @@ module _ (G : Arena) where
       λ j. subst (λ (a : Step). holds G (a .input) ≡ true) (sym (from-is m f j)) (always .1 (m + j) (omega arith)) in
       (m + G .states, row-from (holds G) f m (G .states) (every-first (holds G) (from m f) held (G .states)))
 
-  -- a promise that fails in no beginning is not broken
-  pub unbroken : (fair : Bool) (f : ℕ → Step) → ((k : ℕ) → Failed fair G (first f k) → ⊥) → Unbroken fair G (inputs f)
-  unbroken true f keeping = λ m.
+  holds-unless : (x : ℕ) → lacks G x ≡ false → holds G x ≡ true
+  holds-unless x e = not-false→ (holds G x) e
+
+  few : (f : ℕ → Step) → ((k : ℕ) → Failed false G (first f k) → ⊥) → (k : ℕ) → count (lacks G) (first f k) < G .states
+  few f keeping k = below-or (count (lacks G) (first f k)) (G .states) (λ l. l) (λ l. absurd (keeping k l))
+
+  -- a promise that fails in no beginning is kept
+  pub honoured : (fair : Bool) (f : ℕ → Step) → ((k : ℕ) → Failed fair G (first f k) → ⊥) → Honoured fair G (inputs f)
+  honoured true f keeping = λ m.
       ⊎-elim
       (λ v. absurd (keeping (m + G .states) (row-from (lacks G) f m (G .states) v)))
-      (λ w. (m + w .0, omega arith, subst (λ (a : Step). holds G (a .input) ≡ true) (from-is m f (w .0)) (not-false→ (holds G (from m f (w .0) .input)) (w .1))))
+      (λ w. (m + w .0, omega arith, subst (λ (a : Step). holds G (a .input) ≡ true) (from-is m f (w .0)) (holds-unless (from m f (w .0) .input) (w .1))))
       (every-or-not (lacks G) (from m f) (G .states))
-  unbroken false f keeping =
-      few-failures (holds G) (lacks G) (λ x e. rw e) (G .states) f
-      (λ k. below-or (count (lacks G) (first f k)) (G .states) (λ l. l) (λ l. absurd (keeping k l)))
-
-  -- for who assumes that everything holds or does not hold, it is kept
-  pub not-broken : ((A : Type 0) → A ⊎ (A → ⊥)) → (fair : Bool) (f : ℕ → Step) → Unbroken fair G (inputs f) → Promised fair G (inputs f)
-  not-broken lem true f u = u
-  not-broken lem false f u = ⊎-elim (λ p. p) (λ n. absurd (u n)) (lem (Promised false G (inputs f)))
+  honoured false f keeping = (
+    few-failures (holds G) (lacks G) (λ x e. rw e) (G .states) f (few f keeping),
+    λ omniscience. few-finally omniscience (holds G) (lacks G) holds-unless (G .states) f (few f keeping),
+  )

@@ -15,7 +15,7 @@ use Rattle.game.specs.Endless.{first, inputs, Follows, Promised, Kept, C
 use Rattle.game.specs.EndlessAnswer.{Reaching}
 use Rattle.reader.proofs.BoolLaws.{on, clash, or-left}
 use Rattle.game.proofs.Determined.{reaches-later, system-later, environment-later}
-use Rattle.game.proofs.EndlessLaws.{assumed, unbroken}
+use Rattle.game.proofs.EndlessLaws.{assumed, honoured}
 
 -- the outputs are the way's
 chosen-meet : (α : EnvironmentWay) (ω : SystemWay) (k : ℕ) → Chosen ω (first (meet α ω) k)
@@ -115,7 +115,7 @@ module _ (G : Arena) where
     defeated s w f follows =
         record {
           never = λ k r. clash (reaches G s (first f k)) r (w .avoiding (first f k) (follows k));
-          promised = unbroken G fair f (λ k. w .keeping (first f k) (follows k));
+          promised = honoured G fair f (λ k. w .keeping (first f k) (follows k));
           keeping = λ k. w .keeping (first f k) (follows k);
         }
 

@@ -6,6 +6,7 @@ use Prim.Native.Nat.{ℕ, zero, suc, _≤_, _<_}
 use mathlib.Core.Path.{_≡_}
 use mathlib.Core.Bool.{Bool, true, false}
 use mathlib.Core.List.{List, [], _∷_}
+use mathlib.Core.Logic.{_⊎_}
 use lib.ListN.{length}
 use Rattle.game.specs.Arena.{Arena, holds}
 use Rattle.game.specs.Play.{Step, Along}
@@ -38,11 +39,15 @@ abbrev pub Promised : Bool → Arena → (ℕ → ℕ) → Type 0
 Promised true G x = Again (holds G) x
 Promised false G x = Finally (holds G) x
 
--- it is not broken. This logic does not assume that a thing holds or does not hold; a reader who does may read it as `Promised`
--- (proofs/EndlessLaws.antt, `not-broken`), and only the stable mode needs that
-abbrev pub Unbroken : Bool → Arena → (ℕ → ℕ) → Type 0
-Unbroken true G x = Promised true G x
-Unbroken false G x = (Promised false G x → ⊥) → ⊥
+-- a test on numbers passes somewhere or nowhere. Ordinary mathematics takes it so (the limited principle of omniscience); this logic, which assumes nothing,
+-- does not, since no program can tell which
+abbrev pub Omniscience : Type 0
+Omniscience = (d : ℕ → Bool) → ((j : ℕ) × (d j ≡ true)) ⊎ ((j : ℕ) → d j ≡ false)
+
+-- what is proved of a promise that is kept: fair, that it is kept; stable, that it is not broken, and that it is kept if a test passes somewhere or nowhere
+abbrev pub Honoured : Bool → Arena → (ℕ → ℕ) → Type 0
+Honoured true G x = Promised true G x
+Honoured false G x = ((Promised false G x → ⊥) → ⊥) × (Omniscience → Promised false G x)
 
 -- a beginning of the play without end is done, by which `Done` says that it does what it has to, and up to there it follows the system's strategy: so the
 -- strategy had an output wherever one was needed
@@ -58,10 +63,10 @@ pub record CanEndless (fair : Bool) (G : Arena) (σ : List ℕ) (s : ℕ) (Done 
   -- and on every play without end that follows the strategy and on which the environment keeps its promise
   pub plays : (f : ℕ → Step) → Follows G (BySystem G σ) s f → Promised fair G (inputs f) → Kept G σ s Done f
 
--- no beginning of the play without end is ever done; the environment's promise is not broken on it, and none of its beginnings fails the assumption
+-- no beginning of the play without end is ever done; the environment's promise is kept on it, and none of its beginnings fails the assumption
 pub record Defeated (fair : Bool) (G : Arena) (Done : List Step → Type 0) (f : ℕ → Step) : Type 0 where
   pub never : (k : ℕ) → Done (first f k) → ⊥
-  pub promised : Unbroken fair G (inputs f)
+  pub promised : Honoured fair G (inputs f)
   pub keeping : (k : ℕ) → Failed fair G (first f k) → ⊥
 
 -- "cannot"

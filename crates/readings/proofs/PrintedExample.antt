@@ -30,7 +30,7 @@ use Rattle.game.proofs.Determined.{one-winner}
 use Rattle.listing.specs.Decimal.{digits, decimal}
 use Rattle.listing.specs.Input.{Line, Asks}
 use Rattle.listing.specs.Listing.{stateLines, verdictLines, listing}
-use Rattle.listing.specs.Promise.{lent, Answers, Prints, Listed}
+use Rattle.listing.specs.Promise.{lent, Answers, Prints, Listed, Responded}
 use Rattle.listing.proofs.RequestLaws.{one-request}
 use Rattle.readings.specs.Lists.{listOf, transitionsOf, flagsOf}
 use Rattle.readings.specs.Reading.{Row, rowOf, arenaFor}
@@ -196,3 +196,10 @@ unfolding exampleListing
 printed-whole {output} {output′} {r} l h =
     let w = printed-example l in
     (w .1 ∙ min-eq-left h, w .0 ∙ ap (λ (t : List ℕ). t ++ drop 35 output) (take-all (length output) exampleListing h))
+
+-- the promise of the program's call where what was read is the four lines: it answers with the whole of the listing
+pub printed-response : {bytes output output′ : List ℕ} {got r : ℕ} → take got bytes ≡ exampleInput → Responded bytes got output output′ r → (r ≡ 35) × (take r output′ ≡ exampleListing)
+unfolding exampleListing
+printed-response {bytes} {output} {output′} {got} {r} e x =
+    let t : x .text ≡ exampleListing = prints-listing (x .text) (subst (λ (i : List ℕ). Prints i (x .text)) e (x .prints)) in
+    (x .count ∙ ap (λ (l : List ℕ). length l) t, x .whole ∙ t)

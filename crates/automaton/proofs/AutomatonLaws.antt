@@ -12,7 +12,7 @@ use lib.Seq.{getD-take}
 use Rattle.reader.specs.Formula.{Formula, operators}
 use Rattle.automaton.specs.Limits.{stateLimit}
 use Rattle.automaton.specs.Alphabet.{Letters}
-use Rattle.automaton.specs.Bits.{bit, one, word}
+use Rattle.automaton.specs.Bits.{bit, one, ofBits}
 use Rattle.automaton.specs.Trace.{Satisfies}
 use Rattle.automaton.specs.Valuation.{vectors, endVector}
 use Rattle.automaton.specs.State.{start, after, accepts}
@@ -114,6 +114,6 @@ built-beyond φ L r transitions t₁ t₂ t₃ accepting list pos many ex c₁ k
 pub vectors-shifted : (φ : Formula) (w : ℕ) → w ≤ 6 → w ≡ suc (operators φ) → 1 * 2 ^ w % 2 ^ 64 ≡ 2 ^ suc (operators φ)
 vectors-shifted φ w h e = one-shifted w h ∙ ap (λ (i : ℕ). 2 ^ i) e
 
-pub start-made : (φ : Formula) (first w : ℕ) → w ≤ 6 → w ≡ suc (operators φ) → first ≡ word (λ v. bit v 0) (1 * 2 ^ w % 2 ^ 64) → first ≡ start φ
+pub start-made : (φ : Formula) (first w : ℕ) → w ≤ 6 → w ≡ suc (operators φ) → first ≡ ofBits (λ v. bit v 0) (1 * 2 ^ w % 2 ^ 64) → first ≡ start φ
 unfolding start vectors
-start-made φ first w h e p = p ∙ ap (word (λ v. bit v 0)) (vectors-shifted φ w h e)
+start-made φ first w h e p = p ∙ ap (ofBits (λ v. bit v 0)) (vectors-shifted φ w h e)

@@ -12,16 +12,16 @@ use lib.ListN.{length, getD}
 use lib.Arith.{digits-lt}
 use lib.Bits.{bitAnd, bitOr, bitXor, and-block, or-block, xor-block, or-shifted-r}
 use lib.Pow.{pow-pos, pow-mono, pow-add, high, shl-exact}
-use Rattle.automaton.specs.Bits.{bit, one, word, gather}
+use Rattle.automaton.specs.Bits.{bit, one, ofBits, gather}
 
 pub one-lt : (b : Bool) → one b < 2
 one-lt true = omega arith
 one-lt false = omega arith
 
-pub word-lt : (f : ℕ → Bool) (n : ℕ) → word f n < 2 ^ n
-unfolding word
-word-lt f zero = omega arith
-word-lt f (suc n) = rw (pow-suc, mul-comm (2 ^ n) 2) (digits-lt (one-lt (f n)) (word-lt f n))
+pub ofBits-lt : (f : ℕ → Bool) (n : ℕ) → ofBits f n < 2 ^ n
+unfolding ofBits
+ofBits-lt f zero = omega arith
+ofBits-lt f (suc n) = rw (pow-suc, mul-comm (2 ^ n) 2) (digits-lt (one-lt (f n)) (ofBits-lt f n))
 
 one-odd : (b : Bool) → eqb (one b % 2) 1 ≡ b
 one-odd true = refl
@@ -41,13 +41,13 @@ above′ x y n k h =
     let e : suc (n - suc k) + k ≡ n = omega arith in
     subst (λ (m : ℕ). (x * 2 ^ m + y) / 2 ^ k % 2 ≡ y / 2 ^ k % 2) e (above x y (n - suc k) k)
 
-pub bit-word : (f : ℕ → Bool) (n k : ℕ) → k < n → bit (word f n) k ≡ f k
-unfolding word bit
-bit-word f zero k h = absurd (not-suc-le-zero h)
-bit-word f (suc n) k h =
+pub bit-ofBits : (f : ℕ → Bool) (n k : ℕ) → k < n → bit (ofBits f n) k ≡ f k
+unfolding ofBits bit
+bit-ofBits f zero k h = absurd (not-suc-le-zero h)
+bit-ofBits f (suc n) k h =
     ⊎-elim
-    (λ e. subst (λ (m : ℕ). bit (word f (suc n)) m ≡ f m) (sym e) (ap (λ (m : ℕ). eqb (m % 2) 1) (high (one (f n)) n (word-lt f n)) ∙ one-odd (f n)))
-    (λ l. ap (λ (m : ℕ). eqb m 1) (above′ (one (f n)) (word f n) n k l) ∙ bit-word f n k l)
+    (λ e. subst (λ (m : ℕ). bit (ofBits f (suc n)) m ≡ f m) (sym e) (ap (λ (m : ℕ). eqb (m % 2) 1) (high (one (f n)) n (ofBits-lt f n)) ∙ one-odd (f n)))
+    (λ l. ap (λ (m : ℕ). eqb m 1) (above′ (one (f n)) (ofBits f n) n k l) ∙ bit-ofBits f n k l)
     (eq-or-lt-of-le (le-of-suc-le-suc h))
 
 -- a number below 2 ^ n has no bit from n on
@@ -55,10 +55,10 @@ pub bit-high : (x n k : ℕ) → x < 2 ^ n → n ≤ k → bit x k ≡ false
 unfolding bit
 bit-high x n k h l = ap (λ (m : ℕ). eqb (m % 2) 1) (div-eq-of-lt (lt-of-lt-of-le h (pow-mono l)))
 
-pub word-ext : (f g : ℕ → Bool) (n : ℕ) → ((k : ℕ) → k < n → f k ≡ g k) → word f n ≡ word g n
-unfolding word
-word-ext f g zero h = refl
-word-ext f g (suc n) h = ap₂ (λ (b : Bool) (m : ℕ). one b * 2 ^ n + m) (h n (le-refl (suc n))) (word-ext f g n (λ k l. h k (le-step l)))
+pub ofBits-ext : (f g : ℕ → Bool) (n : ℕ) → ((k : ℕ) → k < n → f k ≡ g k) → ofBits f n ≡ ofBits g n
+unfolding ofBits
+ofBits-ext f g zero h = refl
+ofBits-ext f g (suc n) h = ap₂ (λ (b : Bool) (m : ℕ). one b * 2 ^ n + m) (h n (le-refl (suc n))) (ofBits-ext f g n (λ k l. h k (le-step l)))
 
 one-and : (a b : Bool) → bitAnd (one a) (one b) ≡ one (a && b)
 one-and true true = refl
@@ -76,31 +76,31 @@ one-xor : (a : Bool) → bitXor (one a) 1 ≡ one (not a)
 one-xor true = refl
 one-xor false = refl
 
-pub word-and : (f g : ℕ → Bool) (n : ℕ) → bitAnd (word f n) (word g n) ≡ word (λ k. f k && g k) n
-unfolding word
-word-and f g zero = refl
-word-and f g (suc n) =
-    and-block n (one (f n)) (one (g n)) (word f n) (word g n) (word-lt f n) (word-lt g n)
-    ∙ ap₂ (λ (x y : ℕ). x * 2 ^ n + y) (one-and (f n) (g n)) (word-and f g n)
+pub ofBits-and : (f g : ℕ → Bool) (n : ℕ) → bitAnd (ofBits f n) (ofBits g n) ≡ ofBits (λ k. f k && g k) n
+unfolding ofBits
+ofBits-and f g zero = refl
+ofBits-and f g (suc n) =
+    and-block n (one (f n)) (one (g n)) (ofBits f n) (ofBits g n) (ofBits-lt f n) (ofBits-lt g n)
+    ∙ ap₂ (λ (x y : ℕ). x * 2 ^ n + y) (one-and (f n) (g n)) (ofBits-and f g n)
 
-pub word-or : (f g : ℕ → Bool) (n : ℕ) → bitOr (word f n) (word g n) ≡ word (λ k. f k || g k) n
-unfolding word
-word-or f g zero = refl
-word-or f g (suc n) =
-    or-block n (one (f n)) (one (g n)) (word f n) (word g n) (word-lt f n) (word-lt g n)
-    ∙ ap₂ (λ (x y : ℕ). x * 2 ^ n + y) (one-or (f n) (g n)) (word-or f g n)
+pub ofBits-or : (f g : ℕ → Bool) (n : ℕ) → bitOr (ofBits f n) (ofBits g n) ≡ ofBits (λ k. f k || g k) n
+unfolding ofBits
+ofBits-or f g zero = refl
+ofBits-or f g (suc n) =
+    or-block n (one (f n)) (one (g n)) (ofBits f n) (ofBits g n) (ofBits-lt f n) (ofBits-lt g n)
+    ∙ ap₂ (λ (x y : ℕ). x * 2 ^ n + y) (one-or (f n) (g n)) (ofBits-or f g n)
 
-pub word-not : (f : ℕ → Bool) (n : ℕ) → bitXor (word f n) (word (λ k. true) n) ≡ word (λ k. not (f k)) n
-unfolding word
-word-not f zero = refl
-word-not f (suc n) =
-    xor-block n (one (f n)) 1 (word f n) (word (λ k. true) n) (word-lt f n) (word-lt (λ k. true) n)
-    ∙ ap₂ (λ (x y : ℕ). x * 2 ^ n + y) (one-xor (f n)) (word-not f n)
+pub ofBits-not : (f : ℕ → Bool) (n : ℕ) → bitXor (ofBits f n) (ofBits (λ k. true) n) ≡ ofBits (λ k. not (f k)) n
+unfolding ofBits
+ofBits-not f zero = refl
+ofBits-not f (suc n) =
+    xor-block n (one (f n)) 1 (ofBits f n) (ofBits (λ k. true) n) (ofBits-lt f n) (ofBits-lt (λ k. true) n)
+    ∙ ap₂ (λ (x y : ℕ). x * 2 ^ n + y) (one-xor (f n)) (ofBits-not f n)
 
 -- one more bit, set as the code sets it
-pub word-suc : (f : ℕ → Bool) (n : ℕ) → bitOr (word f n) (one (f n) * 2 ^ n) ≡ word f (suc n)
-unfolding word
-word-suc f n = or-shifted-r (one (f n)) n (word f n) (word-lt f n)
+pub ofBits-suc : (f : ℕ → Bool) (n : ℕ) → bitOr (ofBits f n) (one (f n) * 2 ^ n) ≡ ofBits f (suc n)
+unfolding ofBits
+ofBits-suc f n = or-shifted-r (one (f n)) n (ofBits f n) (ofBits-lt f n)
 
 -- a bit as a number
 pub bit-one : (x k : ℕ) → x / 2 ^ k % 2 ≡ one (bit x k)
@@ -115,11 +115,11 @@ bit-one x k = digit (x / 2 ^ k % 2) (omega arith)
 -- ---- a list as a number
 pub gather-lt : (bs : List Bool) → gather bs < 2 ^ length bs
 unfolding gather
-gather-lt bs = word-lt (λ j. getD bs j false) (length bs)
+gather-lt bs = ofBits-lt (λ j. getD bs j false) (length bs)
 
 pub bit-gather : (bs : List Bool) (k : ℕ) → k < length bs → bit (gather bs) k ≡ getD bs k false
 unfolding gather
-bit-gather bs k h = bit-word (λ j. getD bs j false) (length bs) k h
+bit-gather bs k h = bit-ofBits (λ j. getD bs j false) (length bs) k h
 
 -- ---- what the code's shifts do
 
@@ -131,23 +131,23 @@ set-shifted x k b hk hb hx = ap (bitOr x) (shl-exact 1 k 64 hb (omega arith)) �
 pub set-pair-shifted : (x k b : ℕ) → k < 32 → b < 2 → x < 2 ^ (2 * k) → bitOr x (3 * b * 2 ^ (2 * k) % 2 ^ 64) ≡ 3 * b * 2 ^ (2 * k) + x
 set-pair-shifted x k b hk hb hx = ap (bitOr x) (shl-exact 2 (2 * k) 64 (omega arith) (omega arith)) ∙ or-shifted-r (3 * b) (2 * k) x hx
 
-none : (n : ℕ) → word (λ v. false) n ≡ 0
-unfolding word
+none : (n : ℕ) → ofBits (λ v. false) n ≡ 0
+unfolding ofBits
 none zero = refl
 none (suc n) = omega (arith, none n)
 
 -- no vector below 64 has a coordinate from 6 on
-pub no-coordinate : (j : ℕ) → 6 ≤ j → word (λ v. bit v j) 64 ≡ 0
-no-coordinate j h = word-ext (λ v. bit v j) (λ v. false) 64 (λ v l. bit-high v 6 j l h) ∙ none 64
+pub no-coordinate : (j : ℕ) → 6 ≤ j → ofBits (λ v. bit v j) 64 ≡ 0
+no-coordinate j h = ofBits-ext (λ v. bit v j) (λ v. false) 64 (λ v l. bit-high v 6 j l h) ∙ none 64
 
 -- the turn of a loop that makes a word: bit n, as a number, is put above the bits below n
-pub word-step : (f : ℕ → Bool) (n x b : ℕ) → x ≡ word f n → b ≡ one (f n) → b * 2 ^ n + x ≡ word f (n + 1)
-unfolding word
-word-step f n x b ex eb = ap₂ (λ (y z : ℕ). y * 2 ^ n + z) eb ex ∙ ap (word f) (sym (add-one n))
+pub ofBits-step : (f : ℕ → Bool) (n x b : ℕ) → x ≡ ofBits f n → b ≡ one (f n) → b * 2 ^ n + x ≡ ofBits f (n + 1)
+unfolding ofBits
+ofBits-step f n x b ex eb = ap₂ (λ (y z : ℕ). y * 2 ^ n + z) eb ex ∙ ap (ofBits f) (sym (add-one n))
 
 -- the same with two bits at once, where the bits 2 * k and 2 * k + 1 are both f k
-pub pair-step : (f : ℕ → Bool) (k x b : ℕ) → x ≡ word (λ v. f (v / 2)) (2 * k) → b ≡ one (f k) → 3 * b * 2 ^ (2 * k) + x ≡ word (λ v. f (v / 2)) (2 * (k + 1))
-unfolding word
+pub pair-step : (f : ℕ → Bool) (k x b : ℕ) → x ≡ ofBits (λ v. f (v / 2)) (2 * k) → b ≡ one (f k) → 3 * b * 2 ^ (2 * k) + x ≡ ofBits (λ v. f (v / 2)) (2 * (k + 1))
+unfolding ofBits
 pair-step f k x b ex eb =
     let low : 2 * k / 2 ≡ k = omega arith in
     let high : suc (2 * k) / 2 ≡ k = omega arith in
@@ -157,22 +157,22 @@ pair-step f k x b ex eb =
     let sum : 3 * b * 2 ^ (2 * k) + x ≡ b * 2 ^ suc (2 * k) + (b * 2 ^ (2 * k) + x) = triple b (2 * k) x in
     sum
     ∙ ap₂ (λ (y z : ℕ). y * 2 ^ suc (2 * k) + z) (sym one-high) (ap₂ (λ (y z : ℕ). y * 2 ^ (2 * k) + z) (sym one-low) ex)
-    ∙ ap (word (λ v. f (v / 2))) (sym two)
+    ∙ ap (ofBits (λ v. f (v / 2))) (sym two)
   where
     triple : (b n x : ℕ) → 3 * b * 2 ^ n + x ≡ b * 2 ^ suc n + (b * 2 ^ n + x)
     triple b n x = omega (arith, mul-assoc 3 b (2 ^ n), mul-assoc b (2 ^ n) 2, ap (λ (m : ℕ). b * m) (pow-suc 2 n))
 
-all : (n : ℕ) → word (λ v. true) n + 1 ≡ 2 ^ n
-unfolding word
+all : (n : ℕ) → ofBits (λ v. true) n + 1 ≡ 2 ^ n
+unfolding ofBits
 all zero = refl
 all (suc n) = rw pow-suc (omega (arith, all n))
 
 -- a word whose bits are all one bit
-pub same-false : (b : Bool) → b ≡ false → 0 ≡ word (λ v. b) 64
-same-false b e = sym (ap (λ (x : Bool). word (λ v. x) 64) e ∙ none 64)
+pub same-false : (b : Bool) → b ≡ false → 0 ≡ ofBits (λ v. b) 64
+same-false b e = sym (ap (λ (x : Bool). ofBits (λ v. x) 64) e ∙ none 64)
 
-pub same-true : (b : Bool) → b ≡ true → 0xFFFF_FFFF_FFFF_FFFF ≡ word (λ v. b) 64
-same-true b e = omega (arith, all 64, ap (λ (x : Bool). word (λ v. x) 64) e)
+pub same-true : (b : Bool) → b ≡ true → 0xFFFF_FFFF_FFFF_FFFF ≡ ofBits (λ v. b) 64
+same-true b e = omega (arith, all 64, ap (λ (x : Bool). ofBits (λ v. x) 64) e)
 
 pub one-true : (b : Bool) → one b ≡ 1 → b ≡ true
 one-true true e = refl
@@ -204,12 +204,12 @@ cut x y n k h =
     ap (λ (m : ℕ). (m + y) % 2 ^ k) (ap (λ (m : ℕ). x * m) e ∙ sym (mul-assoc x (2 ^ (n - k)) (2 ^ k))) ∙ mul-add-mod-self-right (x * 2 ^ (n - k)) (2 ^ k) y
 
 -- the low bits of a word
-pub word-mod : (f : ℕ → Bool) (n k : ℕ) → k ≤ n → word f n % 2 ^ k ≡ word f k
-unfolding word
-word-mod f zero k h = let e : k ≡ 0 = omega arith in subst (λ (i : ℕ). 0 % 2 ^ i ≡ word f i) (sym e) refl
-word-mod f (suc n) k h =
-    ⊎-elim (λ e. subst (λ (i : ℕ). word f (suc n) % 2 ^ i ≡ word f i) (sym e) (mod-eq-of-lt (word-lt f (suc n))))
-    (λ l. cut (one (f n)) (word f n) n k (le-of-suc-le-suc l) ∙ word-mod f n k (le-of-suc-le-suc l))
+pub ofBits-mod : (f : ℕ → Bool) (n k : ℕ) → k ≤ n → ofBits f n % 2 ^ k ≡ ofBits f k
+unfolding ofBits
+ofBits-mod f zero k h = let e : k ≡ 0 = omega arith in subst (λ (i : ℕ). 0 % 2 ^ i ≡ ofBits f i) (sym e) refl
+ofBits-mod f (suc n) k h =
+    ⊎-elim (λ e. subst (λ (i : ℕ). ofBits f (suc n) % 2 ^ i ≡ ofBits f i) (sym e) (mod-eq-of-lt (ofBits-lt f (suc n))))
+    (λ l. cut (one (f n)) (ofBits f n) n k (le-of-suc-le-suc l) ∙ ofBits-mod f n k (le-of-suc-le-suc l))
     (eq-or-lt-of-le h)
 
 -- `1 << k`

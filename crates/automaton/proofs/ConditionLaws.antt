@@ -22,11 +22,11 @@ use Rattle.reader.proofs.Unambiguous.{some-reading}
 use Rattle.automaton.specs.declared.condition.Assumption.{Assumption}
 use Rattle.automaton.specs.declared.condition.Assumption.the-variants.{Mask, Refused}
 use Rattle.automaton.specs.Alphabet.{badAlphabet}
-use Rattle.automaton.specs.Bits.{bit, word}
+use Rattle.automaton.specs.Bits.{bit, ofBits}
 use Rattle.automaton.specs.Trace.{Satisfies}
 use Rattle.automaton.specs.Valuation.{value}
 use Rattle.automaton.specs.Condition.{maskOf, Judges, conditionRefusal, Conditioned}
-use Rattle.automaton.proofs.BitLaws.{bit-word}
+use Rattle.automaton.proofs.BitLaws.{bit-ofBits}
 use Rattle.automaton.proofs.Meaning.{value-satisfies}
 
 -- the mask of a formula without temporal operators judges as the formula does
@@ -34,7 +34,7 @@ pub mask-judges : (κ : Formula) (i : ℕ) → operators κ ≡ 0 → Judges κ 
 unfolding maskOf
 mask-judges κ i e x h =
     let w = value-satisfies κ x 0 e in
-    let b : bit (word (λ y. value κ 1 y 0) (2 ^ i)) x ≡ value κ 1 x 0 = bit-word (λ y. value κ 1 y 0) (2 ^ i) x h in
+    let b : bit (ofBits (λ y. value κ 1 y 0) (2 ^ i)) x ≡ value κ 1 x 0 = bit-ofBits (λ y. value κ 1 y 0) (2 ^ i) x h in
     (λ t. w .0 (sym b ∙ t), λ s. b ∙ w .1 s)
 
 module _ (i : ℕ) (text : List ℕ) where

@@ -11,11 +11,11 @@ use lib.ListN.{getD, length, length-append}
 use lib.Pow.{pow-mono}
 use Rattle.reader.specs.Formula.{Unary, Binary, Formula, constant, name, unary, neg, next, weak, eventually, always, binary, until, release, conj, disj, impl, withUnary, withBinary, operators}
 use Rattle.reader.specs.inner.Nodes.{unaryCode, binaryCode, wordOf}
-use Rattle.automaton.specs.Bits.{bit, word, gather}
+use Rattle.automaton.specs.Bits.{bit, ofBits, gather}
 use Rattle.automaton.specs.Valuation.{value, coords, ends, present, endVector}
 use Rattle.automaton.specs.inner.Representation.{Represents}
-use Rattle.automaton.specs.inner.Nodes.{Node, at-constant, at-name, at-unary, at-binary, kindOf, Evaluated, temporalKind, coordinateOf, Located, ownerOf, owner, endOf, endBit, Makes}
-use Rattle.automaton.proofs.BitLaws.{word-lt, word-ext}
+use Rattle.automaton.specs.inner.Nodes.{Node, at-constant, at-name, at-unary, at-binary, nodeKind, Evaluated, temporalKind, coordinateOf, Located, ownerOf, owner, endOf, endBit, Makes}
+use Rattle.automaton.proofs.BitLaws.{ofBits-lt, ofBits-ext}
 use Rattle.reader.proofs.NodeLaws.{size-pos}
 use Rattle.automaton.proofs.ValuationLaws.{coords-length, ends-length}
 use Rattle.automaton.proofs.NodeLaws.{kind-field, unary-small, binary-small, root-node}
@@ -123,28 +123,28 @@ module _ (g : ℕ → Bool) where
 module _ (nodes places : List ℕ) (m : ℕ) (few : m ≤ 64) (pl : (o : ℕ) → o < m → 0 < coordinateOf (getD nodes o 0) → getD places (coordinateOf (getD nodes o 0)) 0 ≡ o) where
   -- what is asked of a coordinate's node is asked of the operator that has it
   operator : {A : Type 0} (f : ℕ → ℕ → A) (i K L k : ℕ) → K < 256 → L < 256 → 0 < k → k < 8 → i < m → getD nodes i 0 ≡ wordOf K L k → temporalKind K ≡ true →
-      f (kindOf (getD nodes (getD places k 0) 0)) (getD places k 0) ≡ f K i
+      f (nodeKind (getD nodes (getD places k 0) 0)) (getD places k 0) ≡ f K i
   operator f i K L k hK hL pos hk h e t =
       let c : coordinateOf (getD nodes i 0) ≡ k = coordinate-word K L k _ hK hL hk e ∙ ap (λ (b : Bool). cond b k 0) t in
       let p : getD places k 0 ≡ i = ap (λ (x : ℕ). getD places x 0) (sym c) ∙ pl i h (omega arith) in
-      ap (λ (o : ℕ). f (kindOf (getD nodes o 0)) o) p ∙ ap (λ (x : ℕ). f x i) (ap kindOf e ∙ kind-field K L k hK hL)
+      ap (λ (o : ℕ). f (nodeKind (getD nodes o 0)) o) p ∙ ap (λ (x : ℕ). f x i) (ap nodeKind e ∙ kind-field K L k hK hL)
 
   -- ---- the end valuation
-  ended : (i k : ℕ) (φ : Formula) → i < m → 0 < k → k + operators φ < 8 → Node nodes i k φ → Along (λ j. endOf (kindOf (getD nodes (getD places j 0) 0))) k (ends φ)
+  ended : (i k : ℕ) (φ : Formula) → i < m → 0 < k → k + operators φ < 8 → Node nodes i k φ → Along (λ j. endOf (nodeKind (getD nodes (getD places j 0) 0))) k (ends φ)
   unfolding ends operators
   ended i k (constant b) h pos room (at-constant e) = along-nil _ k
   ended i k (name n) h pos room (at-name e) = along-nil _ k
   ended i k (unary u φ) h pos room (at-unary {i = i'} e t) =
       let d = unary-adds u k in
       let c = unary-adds u (operators φ) in
-      let g : ℕ → Bool = λ j. endOf (kindOf (getD nodes (getD places j 0) 0)) in
+      let g : ℕ → Bool = λ j. endOf (nodeKind (getD nodes (getD places j 0) 0)) in
       subst (Along g k) (sym (unary-ends u φ))
       (along-unary g u k (endOf (unaryCode u)) (ends φ) (operator (λ K o. endOf K) (suc i') (unaryCode u) 0 k (unary-small u) (omega arith) pos (omega arith) h e)
       (ended i' (withUnary u k) φ (omega arith) (omega arith) (omega arith) t))
   ended i k (binary b φ ψ) h pos room (at-binary {i = i'} {j = j} e n s t) =
       let d = binary-adds b (k + operators φ) in
       let c = binary-adds b (operators ψ) in
-      let g : ℕ → Bool = λ j. endOf (kindOf (getD nodes (getD places j 0) 0)) in
+      let g : ℕ → Bool = λ j. endOf (nodeKind (getD nodes (getD places j 0) 0)) in
       subst (Along g k) (sym (binary-ends b φ ψ))
       (along-binary g b k (operators φ) (endOf (binaryCode b)) (ends φ) (ends ψ) (ends-length φ)
       (operator (λ K o. endOf K) (suc i') (binaryCode b) (suc j) (k + operators φ) (binary-small b) (omega arith) (omega arith) (omega arith) h e)
@@ -155,7 +155,7 @@ module _ (nodes places : List ℕ) (m : ℕ) (few : m ≤ 64) (pl : (o : ℕ) �
   module _ (a : ℕ) (ws : List ℕ) (ev : Evaluated nodes a ws m) (v : ℕ) (hv : v < 64) where
     -- the bit of an operator's coordinate
     abbrev own : ℕ → Bool
-    own k = bit (getD ws (ownerOf (kindOf (getD nodes (getD places k 0) 0)) (getD places k 0)) 0) v
+    own k = bit (getD ws (ownerOf (nodeKind (getD nodes (getD places k 0) 0)) (getD places k 0)) 0) v
 
     -- of a node with one operand, from the operand's and its own
     own-unary : (u : Unary) (φ : Formula) (i k : ℕ) → temporalKind (unaryCode u) ≡ true → bit (getD ws i 0) v ≡ value φ (withUnary u k) a v → bit (getD ws (suc i) 0) v ≡ value (unary u φ) k a v →
@@ -204,15 +204,15 @@ pub root-bit : (nodes : List ℕ) (m : ℕ) (φ : Formula) → Represents nodes 
 root-bit nodes m φ rep a ws ev v hv = node-bit nodes a ws m v (m - 1) 1 φ ev hv (omega (arith, rep .count, size-pos φ)) (root-node nodes m φ rep)
 
 module _ (nodes places : List ℕ) (m : ℕ) (φ : Formula) (rep : Represents nodes m φ) (loc : Located nodes m places) where
-  pub ended-vector : word (endBit nodes places) (suc (operators φ)) ≡ endVector φ
+  pub ended-vector : ofBits (endBit nodes places) (suc (operators φ)) ≡ endVector φ
   unfolding endVector gather endBit Along
   ended-vector =
       let l = false ∷ ends φ in
       let n : length l ≡ suc (operators φ) = ap suc (ends-length φ) in
       let pos = size-pos φ in
       let tree = ended nodes places m (omega (arith, rep .count, rep .few-nodes)) (placed nodes places m φ rep loc) (m - 1) 1 φ (omega (arith, rep .count)) (omega arith) (omega (arith, rep .few-operators)) (root-node nodes m φ rep) in
-      let all = along-cons (endBit nodes places) 0 false (ends φ) refl (λ j h. ap (endBit nodes places) (one-add j) ∙ ap (λ (i : ℕ). endOf (kindOf (getD nodes (getD places i 0) 0))) (sym (one-add j)) ∙ tree j h) in
-      word-ext (endBit nodes places) (λ j. getD l j false) (suc (operators φ)) (λ j h. ap (endBit nodes places) (sym (zero-add j)) ∙ all j (omega arith)) ∙ ap (word (λ j. getD l j false)) (sym n)
+      let all = along-cons (endBit nodes places) 0 false (ends φ) refl (λ j h. ap (endBit nodes places) (one-add j) ∙ ap (λ (i : ℕ). endOf (nodeKind (getD nodes (getD places i 0) 0))) (sym (one-add j)) ∙ tree j h) in
+      ofBits-ext (endBit nodes places) (λ j. getD l j false) (suc (operators φ)) (λ j h. ap (endBit nodes places) (sym (zero-add j)) ∙ all j (omega arith)) ∙ ap (ofBits (λ j. getD l j false)) (sym n)
 
   module _ (a : ℕ) (ws : List ℕ) (ev : Evaluated nodes a ws m) where
     -- the valuation that the coordinates' words make from v is that of the present position
@@ -228,26 +228,26 @@ module _ (nodes places : List ℕ) (m : ℕ) (φ : Formula) (rep : Represents no
         let tree = owned nodes places m m64 pl a ws ev v hv (m - 1) 1 φ (omega (arith, rep .count)) (omega arith) (omega arith) (root-node nodes m φ rep) in
         let all = along-cons g 0 (value φ 1 a v) (coords φ 1 a v) (root-bit nodes m φ rep a ws ev v hv) (λ j h. ap g (one-add j) ∙ ap (own nodes places m m64 pl a ws ev v hv) (sym (one-add j)) ∙ tree j h) in
         let n : length l ≡ suc (operators φ) = ap suc (coords-length φ 1 a v) in
-        word-ext (λ j. bit (getD ps j 0) v) (λ j. getD l j false) (suc (operators φ))
+        ofBits-ext (λ j. bit (getD ps j 0) v) (λ j. getD l j false) (suc (operators φ))
         (λ j h. ap (λ (x : ℕ). bit x v) (same j (omega arith)) ∙ ap g (sym (zero-add j)) ∙ all j (omega arith))
-        ∙ ap (word (λ j. getD l j false)) (sym n)
+        ∙ ap (ofBits (λ j. getD l j false)) (sym n)
 
 -- ---- what the code tests
-pub owner-suc : (nodes places : List ℕ) (m j : ℕ) → (j ≡ 0 → ⊥) → owner nodes places m j ≡ ownerOf (kindOf (getD nodes (getD places j 0) 0)) (getD places j 0)
+pub owner-suc : (nodes places : List ℕ) (m j : ℕ) → (j ≡ 0 → ⊥) → owner nodes places m j ≡ ownerOf (nodeKind (getD nodes (getD places j 0) 0)) (getD places j 0)
 unfolding owner
 owner-suc nodes places m zero h = absurd (h refl)
 owner-suc nodes places m (suc j) h = refl
 
-pub end-suc : (nodes places : List ℕ) (j : ℕ) → (j ≡ 0 → ⊥) → endBit nodes places j ≡ endOf (kindOf (getD nodes (getD places j 0) 0))
+pub end-suc : (nodes places : List ℕ) (j : ℕ) → (j ≡ 0 → ⊥) → endBit nodes places j ≡ endOf (nodeKind (getD nodes (getD places j 0) 0))
 unfolding endBit
 end-suc nodes places zero h = absurd (h refl)
 end-suc nodes places (suc j) h = refl
 
 -- the valuation from the words, for a width at hand
-pub present-from : (φ : Formula) (a : ℕ) (ps : List ℕ) (w : ℕ) → w ≡ suc (operators φ) → Makes φ a ps → (v : ℕ) → v < 64 → word (λ j. bit (getD ps j 0) v) w ≡ present φ a v
+pub present-from : (φ : Formula) (a : ℕ) (ps : List ℕ) (w : ℕ) → w ≡ suc (operators φ) → Makes φ a ps → (v : ℕ) → v < 64 → ofBits (λ j. bit (getD ps j 0) v) w ≡ present φ a v
 unfolding Makes
-present-from φ a ps w e made v h = ap (word (λ j. bit (getD ps j 0) v)) e ∙ made v h
+present-from φ a ps w e made v h = ap (ofBits (λ j. bit (getD ps j 0) v)) e ∙ made v h
 
 -- a valuation fits six bits
-pub word-small : (f : ℕ → Bool) (w : ℕ) → w ≤ 6 → word f w < 64
-word-small f w h = lt-of-lt-of-le (word-lt f w) (pow-mono {i = w} {j = 6} h)
+pub ofBits-small : (f : ℕ → Bool) (w : ℕ) → w ≤ 6 → ofBits f w < 64
+ofBits-small f w h = lt-of-lt-of-le (ofBits-lt f w) (pow-mono {i = w} {j = 6} h)

@@ -12,24 +12,24 @@ use lib.ListN.{getD, set, length}
 use lib.Seq.{getD-set-same, getD-set-other}
 use Rattle.reader.specs.Formula.{Unary, Binary, Formula, constant, name, unary, neg, next, weak, eventually, always, binary, until, release, conj, disj, impl, withUnary, withBinary, operators}
 use Rattle.reader.specs.inner.Nodes.{constantCode, unaryCode, binaryCode, wordOf}
-use Rattle.automaton.specs.Bits.{bit, word}
+use Rattle.automaton.specs.Bits.{bit, ofBits}
 use Rattle.automaton.specs.Valuation.{value}
-use Rattle.automaton.specs.inner.Nodes.{Node, at-constant, at-name, at-unary, at-binary, kindOf, leftOf, argumentOf, allBits, nodeWord, Evaluated}
-use Rattle.automaton.proofs.BitLaws.{word-and, word-or, word-not, same-true, same-false, bit-word}
+use Rattle.automaton.specs.inner.Nodes.{Node, at-constant, at-name, at-unary, at-binary, nodeKind, leftOf, argumentOf, allBits, nodeWord, Evaluated}
+use Rattle.automaton.proofs.BitLaws.{ofBits-and, ofBits-or, ofBits-not, same-true, same-false, bit-ofBits}
 use Rattle.automaton.proofs.NodeLaws.{kind-field, left-field, argument-field, binary-small}
 
 -- the valuations at which a test passes
 abbrev set64 : (ℕ → Bool) → ℕ
-set64 f = word f 64
+set64 f = ofBits f 64
 
 not64 : (x : ℕ) (f : ℕ → Bool) → x ≡ set64 f → bitXor x allBits ≡ set64 (λ v. not (f v))
-not64 x f e = ap₂ bitXor e (same-true true refl) ∙ word-not f 64
+not64 x f e = ap₂ bitXor e (same-true true refl) ∙ ofBits-not f 64
 
 and64 : (x y : ℕ) (f g : ℕ → Bool) → x ≡ set64 f → y ≡ set64 g → bitAnd x y ≡ set64 (λ v. f v && g v)
-and64 x y f g e d = ap₂ bitAnd e d ∙ word-and f g 64
+and64 x y f g e d = ap₂ bitAnd e d ∙ ofBits-and f g 64
 
 or64 : (x y : ℕ) (f g : ℕ → Bool) → x ≡ set64 f → y ≡ set64 g → bitOr x y ≡ set64 (λ v. f v || g v)
-or64 x y f g e d = ap₂ bitOr e d ∙ word-or f g 64
+or64 x y f g e d = ap₂ bitOr e d ∙ ofBits-or f g 64
 
 module _ (nodes : List ℕ) (a : ℕ) (ws : List ℕ) where
   -- what the code hands to node i
@@ -41,12 +41,12 @@ module _ (nodes : List ℕ) (a : ℕ) (ws : List ℕ) where
 
   -- and the word that it gives it
   abbrev given : ℕ → ℕ
-  given i = nodeWord (kindOf (getD nodes i 0)) (argumentOf (getD nodes i 0)) a (leftAt i) (rightAt i)
+  given i = nodeWord (nodeKind (getD nodes i 0)) (argumentOf (getD nodes i 0)) a (leftAt i) (rightAt i)
 
   -- the fields are known
   fields : (i K L A : ℕ) {x : ℕ} → K < 256 → L < 256 → getD nodes i 0 ≡ wordOf K L A → nodeWord K A a (leftAt i) (rightAt i) ≡ x → given i ≡ x
   fields i K L A {x} hK hL e h =
-      subst (λ (k : ℕ). nodeWord k (argumentOf (getD nodes i 0)) a (leftAt i) (rightAt i) ≡ x) (sym (ap kindOf e ∙ kind-field K L A hK hL))
+      subst (λ (k : ℕ). nodeWord k (argumentOf (getD nodes i 0)) a (leftAt i) (rightAt i) ≡ x) (sym (ap nodeKind e ∙ kind-field K L A hK hL))
       (subst (λ (n : ℕ). nodeWord K n a (leftAt i) (rightAt i) ≡ x) (sym (ap argumentOf e ∙ argument-field K L A hK hL)) h)
 
   right-word : {i k : ℕ} {φ : Formula} → Evaluated nodes a ws (suc i) → Node nodes i k φ → rightAt (suc i) ≡ set64 (λ v. value φ k a v)
@@ -106,10 +106,10 @@ module _ (nodes : List ℕ) (a : ℕ) (ws : List ℕ) where
       (eq-or-lt-of-le (le-of-suc-le-suc l))
 
   -- the turn of the loop: the word x of node i, made from its operands' words y and z, is stored
-  pub evaluated-more : (i x y z : ℕ) → i < 64 → length ws ≡ 64 → y ≡ leftAt i → z ≡ rightAt i → x ≡ nodeWord (kindOf (getD nodes i 0)) (argumentOf (getD nodes i 0)) a y z → Evaluated nodes a ws i → Evaluated nodes a (set ws i x) (i + 1)
-  evaluated-more i x y z h n ey ez e ev = rw add-one (stored i x h n (e ∙ ap₂ (nodeWord (kindOf (getD nodes i 0)) (argumentOf (getD nodes i 0)) a) ey ez) ev)
+  pub evaluated-more : (i x y z : ℕ) → i < 64 → length ws ≡ 64 → y ≡ leftAt i → z ≡ rightAt i → x ≡ nodeWord (nodeKind (getD nodes i 0)) (argumentOf (getD nodes i 0)) a y z → Evaluated nodes a ws i → Evaluated nodes a (set ws i x) (i + 1)
+  evaluated-more i x y z h n ey ez e ev = rw add-one (stored i x h n (e ∙ ap₂ (nodeWord (nodeKind (getD nodes i 0)) (argumentOf (getD nodes i 0)) a) ey ez) ev)
 
   -- a bit of an evaluated node's word
   pub node-bit : (m v i k : ℕ) (φ : Formula) → Evaluated nodes a ws m → v < 64 → i < m → Node nodes i k φ → bit (getD ws i 0) v ≡ value φ k a v
   unfolding Evaluated
-  node-bit m v i k φ ev hv h t = ap (λ (x : ℕ). bit x v) (ev i h k φ t) ∙ bit-word (λ u. value φ k a u) 64 v hv
+  node-bit m v i k φ ev hv h t = ap (λ (x : ℕ). bit x v) (ev i h k φ t) ∙ bit-ofBits (λ u. value φ k a u) 64 v hv

@@ -16,7 +16,7 @@ use Rattle.automaton.specs.Trace.{Satisfies}
 use Rattle.automaton.specs.Valuation.{value, coords, ends, vectors, present, endVector}
 use Rattle.automaton.specs.State.{start, after, accepts}
 use Rattle.automaton.specs.inner.Fold.{valuation, run}
-use Rattle.automaton.proofs.BitLaws.{bit-word, bit-gather}
+use Rattle.automaton.proofs.BitLaws.{bit-ofBits, bit-gather}
 use Rattle.automaton.proofs.StepLaws.{by-test, by-true}
 use Rattle.automaton.proofs.ValuationLaws.{Right, value-holds, valuation-lt, valuation-right}
 
@@ -45,13 +45,13 @@ valuation-satisfies φ w = by-true (valuation-decides φ w)
 run-valuation : (φ : Formula) (w : List ℕ) (s : ℕ) → accepts φ (run φ s w) ≡ bit s (valuation φ w)
 unfolding run valuation accepts after
 run-valuation φ [] s = refl
-run-valuation φ (a ∷ w) s = run-valuation φ w (after φ s a) ∙ bit-word (λ v. bit s (present φ a v)) (vectors φ) (valuation φ w) (valuation-lt φ w)
+run-valuation φ (a ∷ w) s = run-valuation φ w (after φ s a) ∙ bit-ofBits (λ v. bit s (present φ a v)) (vectors φ) (valuation φ w) (valuation-lt φ w)
 
 -- demand 2's claim, for the automaton as the specification defines it
 pub run-accepts : (φ : Formula) (a : ℕ) (w : List ℕ) → T (accepts φ (run φ (start φ) (a ∷ w))) ↔ Satisfies φ (a ∷ w)
 unfolding start
 run-accepts φ a w =
-    by-test (run-valuation φ (a ∷ w) (start φ) ∙ bit-word (λ u. bit u 0) (vectors φ) (valuation φ (a ∷ w)) (valuation-lt φ (a ∷ w))) (valuation-decides φ (a ∷ w))
+    by-test (run-valuation φ (a ∷ w) (start φ) ∙ bit-ofBits (λ u. bit u 0) (vectors φ) (valuation φ (a ∷ w)) (valuation-lt φ (a ∷ w))) (valuation-decides φ (a ∷ w))
 
 -- ---- formulas without temporal operators
 

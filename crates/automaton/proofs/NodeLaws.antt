@@ -11,11 +11,11 @@ use Rattle.reader.specs.Formula.{Unary, neg, next, weak, eventually, always, Bi
 use Rattle.reader.specs.inner.Nodes.{unaryCode, binaryCode, wordOf, code, nodesOf}
 use Rattle.automaton.specs.inner.Representation.{Represents}
 use Rattle.reader.proofs.NodeLaws.{size-pos, code-length}
-use Rattle.automaton.specs.inner.Nodes.{Node, at-constant, at-name, at-unary, at-binary, kindOf, leftOf, argumentOf}
+use Rattle.automaton.specs.inner.Nodes.{Node, at-constant, at-name, at-unary, at-binary, nodeKind, leftOf, argumentOf}
 
 -- ---- the fields of a word
 module _ (kind left argument : ℕ) (small : kind < 256) (near : left < 256) where
-  pub kind-field : kindOf (wordOf kind left argument) ≡ kind
+  pub kind-field : nodeKind (wordOf kind left argument) ≡ kind
   kind-field = omega arith
 
   pub left-field : leftOf (wordOf kind left argument) ≡ left

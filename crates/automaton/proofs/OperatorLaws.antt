@@ -14,7 +14,7 @@ use Rattle.reader.specs.Formula.{Unary, Binary, Formula, constant, name, unary,
 use Rattle.reader.specs.inner.Nodes.{constantCode, nameCode, unaryCode, binaryCode, wordOf}
 use Rattle.automaton.specs.Bits.{one}
 use Rattle.automaton.specs.inner.Representation.{Represents}
-use Rattle.automaton.specs.inner.Nodes.{Node, at-constant, at-name, at-unary, at-binary, kindOf, argumentOf, temporalKind, isTemporal, operatorsIn, coordinateOf, Located}
+use Rattle.automaton.specs.inner.Nodes.{Node, at-constant, at-name, at-unary, at-binary, nodeKind, argumentOf, temporalKind, isTemporalNode, operatorsIn, coordinateOf, Located}
 use Rattle.reader.proofs.NodeLaws.{size-pos}
 use Rattle.automaton.proofs.NodeLaws.{kind-field, argument-field, unary-small, binary-small, root-node}
 
@@ -31,9 +31,9 @@ same-or m n =
     (below-or m n)
 
 -- ---- the coordinate in a word
-temporal-word : (K L A w : ℕ) → K < 256 → L < 256 → w ≡ wordOf K L A → isTemporal w ≡ temporalKind K
-unfolding isTemporal
-temporal-word K L A w hK hL e = ap temporalKind (ap kindOf e ∙ kind-field K L A hK hL)
+temporal-word : (K L A w : ℕ) → K < 256 → L < 256 → w ≡ wordOf K L A → isTemporalNode w ≡ temporalKind K
+unfolding isTemporalNode
+temporal-word K L A w hK hL e = ap temporalKind (ap nodeKind e ∙ kind-field K L A hK hL)
 
 pub coordinate-word : (K L A w : ℕ) → K < 256 → L < 256 → A < 8 → w ≡ wordOf K L A → coordinateOf w ≡ cond (temporalKind K) A 0
 unfolding coordinateOf
@@ -65,7 +65,7 @@ no-coordinate-word K L A w hK hL n e = ap (λ (b : Bool). cond b (argumentOf w %
 
 coordinate-small : (w : ℕ) → coordinateOf w < 8
 unfolding coordinateOf
-coordinate-small w = pick (isTemporal w)
+coordinate-small w = pick (isTemporalNode w)
   where
     pick : (b : Bool) → cond b (argumentOf w % 8) 0 < 8
     pick true = omega arith
@@ -172,20 +172,20 @@ module _ (nodes : List ℕ) where
   counted i k n (constant b) e small (at-constant w) =
       let i=n : i ≡ n = omega arith in
       let q : operatorsIn nodes i ≡ operatorsIn nodes n = ap (operatorsIn nodes) i=n in
-      let z : one (isTemporal (getD nodes i 0)) ≡ 0 = ap one (temporal-word (constantCode b) 0 k _ (constant-plain b .0) (omega arith) w ∙ constant-plain b .1) in
+      let z : one (isTemporalNode (getD nodes i 0)) ≡ 0 = ap one (temporal-word (constantCode b) 0 k _ (constant-plain b .0) (omega arith) w ∙ constant-plain b .1) in
       omega arith
   counted i k n (name j) e small (at-name w) =
       let i=n : i ≡ n = omega arith in
       let q : operatorsIn nodes i ≡ operatorsIn nodes n = ap (operatorsIn nodes) i=n in
-      let z : one (isTemporal (getD nodes i 0)) ≡ 0 = ap one (temporal-word nameCode 0 j _ (omega arith) (omega arith) w) in
+      let z : one (isTemporalNode (getD nodes i 0)) ≡ 0 = ap one (temporal-word nameCode 0 j _ (omega arith) (omega arith) w) in
       omega arith
   counted i k n (unary u φ) e small (at-unary {i = i'} w t) =
-      let z : one (isTemporal (getD nodes (suc i') 0)) ≡ one (temporalKind (unaryCode u)) = ap one (temporal-word (unaryCode u) 0 k _ (unary-small u) (omega arith) w) in
+      let z : one (isTemporalNode (getD nodes (suc i') 0)) ≡ one (temporalKind (unaryCode u)) = ap one (temporal-word (unaryCode u) 0 k _ (unary-small u) (omega arith) w) in
       let x = counted i' (withUnary u k) n φ (omega arith) (omega arith) t in
       let y = unary-adds u (operators φ) in
       omega arith
   counted i k n (binary b φ ψ) e small (at-binary {i = i'} {j = j} w l s t) =
-      let z : one (isTemporal (getD nodes (suc i') 0)) ≡ one (temporalKind (binaryCode b)) = ap one (temporal-word (binaryCode b) (suc j) (k + operators φ) _ (binary-small b) (omega arith) w) in
+      let z : one (isTemporalNode (getD nodes (suc i') 0)) ≡ one (temporalKind (binaryCode b)) = ap one (temporal-word (binaryCode b) (suc j) (k + operators φ) _ (binary-small b) (omega arith) w) in
       let x = counted j k n φ (omega arith) (omega arith) s in
       let x' = counted i' (withBinary b (k + operators φ)) (suc j) ψ (omega arith) (omega arith) t in
       let y = binary-adds b (operators ψ) in
@@ -220,22 +220,22 @@ module _ (nodes : List ℕ) where
       (same-or j (at m))
 
 -- ---- what the code tests
-pub kind-low : (w : ℕ) → kindOf w < 4 → isTemporal w ≡ false
-unfolding isTemporal
-kind-low w h = ap (λ (b : Bool). b && leb (kindOf w) 9) (lt-leb 4 (kindOf w) h)
+pub kind-low : (w : ℕ) → nodeKind w < 4 → isTemporalNode w ≡ false
+unfolding isTemporalNode
+kind-low w h = ap (λ (b : Bool). b && leb (nodeKind w) 9) (lt-leb 4 (nodeKind w) h)
 
-pub kind-high : (w : ℕ) → 9 < kindOf w → isTemporal w ≡ false
-unfolding isTemporal
-kind-high w h = ap₂ _&&_ (le-leb 4 (kindOf w) (omega arith)) (lt-leb (kindOf w) 9 h)
+pub kind-high : (w : ℕ) → 9 < nodeKind w → isTemporalNode w ≡ false
+unfolding isTemporalNode
+kind-high w h = ap₂ _&&_ (le-leb 4 (nodeKind w) (omega arith)) (lt-leb (nodeKind w) 9 h)
 
-pub kind-temporal : (w : ℕ) → 4 ≤ kindOf w → kindOf w ≤ 9 → isTemporal w ≡ true
-unfolding isTemporal
-kind-temporal w h l = ap₂ _&&_ (le-leb 4 (kindOf w) h) (le-leb (kindOf w) 9 l)
+pub kind-temporal : (w : ℕ) → 4 ≤ nodeKind w → nodeKind w ≤ 9 → isTemporalNode w ≡ true
+unfolding isTemporalNode
+kind-temporal w h l = ap₂ _&&_ (le-leb 4 (nodeKind w) h) (le-leb (nodeKind w) 9 l)
 
-pub coordinate-temporal : (w : ℕ) → isTemporal w ≡ true → coordinateOf w ≡ argumentOf w % 8
+pub coordinate-temporal : (w : ℕ) → isTemporalNode w ≡ true → coordinateOf w ≡ argumentOf w % 8
 unfolding coordinateOf
 coordinate-temporal w t = ap (λ (b : Bool). cond b (argumentOf w % 8) 0) t
 
-pub coordinate-other : (w : ℕ) → isTemporal w ≡ false → coordinateOf w ≡ 0
+pub coordinate-other : (w : ℕ) → isTemporalNode w ≡ false → coordinateOf w ≡ 0
 unfolding coordinateOf
 coordinate-other w t = ap (λ (b : Bool). cond b (argumentOf w % 8) 0) t

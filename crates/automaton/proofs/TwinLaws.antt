@@ -17,7 +17,7 @@ use Rattle.automaton.specs.State.{after}
 use Rattle.automaton.specs.Discovery.{position, discovered, target}
 use Rattle.automaton.specs.inner.Representation.{Tabulates, SameRow, Twins}
 use Rattle.automaton.specs.inner.Exploration.{Filled, Progress}
-use Rattle.automaton.proofs.BitLaws.{word-ext}
+use Rattle.automaton.proofs.BitLaws.{ofBits-ext}
 use Rattle.automaton.proofs.PairLaws.{present-even}
 use Rattle.automaton.proofs.DiscoveryLaws.{looked, discovered-old, closed}
 use Rattle.automaton.proofs.ExplorationLaws.{filled-old, Letter, letter-more, letter-room}
@@ -38,7 +38,7 @@ twins-more m a b table twins all h small same =
 pub same-after : (φ : Formula) (L m a b state : ℕ) (table : List ℕ) → Tabulates φ L table → m ≡ 2 ^ suc (operators φ) → a < L → b < L → SameRow table (m / 2) a b → after φ state a ≡ after φ state b
 unfolding Tabulates after vectors
 same-after φ L m a b state table tab e ha hb same =
-    word-ext (λ v. bit state (present φ a v)) (λ v. bit state (present φ b v)) (2 ^ suc (operators φ)) (λ v l.
+    ofBits-ext (λ v. bit state (present φ a v)) (λ v. bit state (present φ b v)) (2 ^ suc (operators φ)) (λ v l.
     let h : 2 * (v / 2) < 2 ^ suc (operators φ) = omega arith in
     let q : v / 2 < m / 2 = omega (arith, pow-suc 2 (operators φ)) in
     ap (bit state) (sym (present-even φ a v) ∙ sym (tab a (v / 2) ha h) ∙ same (v / 2) q ∙ tab b (v / 2) hb h ∙ present-even φ b v))

@@ -15,11 +15,11 @@ one true = 1
 one false = 0
 
 -- the number whose bit k is f k for each k below n, and whose other bits are 0
-unfoldable pub word : (ℕ → Bool) → ℕ → ℕ
-word f zero = 0
-word f (suc n) = one (f n) * 2 ^ n + word f n
+unfoldable pub ofBits : (ℕ → Bool) → ℕ → ℕ
+ofBits f zero = 0
+ofBits f (suc n) = one (f n) * 2 ^ n + ofBits f n
 
 -- the number whose bits are those of a list, bit 0 first
 unfoldable pub gather : List Bool → ℕ
-unfolding word
-gather bs = word (λ j. getD bs j false) (length bs)
+unfolding ofBits
+gather bs = ofBits (λ j. getD bs j false) (length bs)

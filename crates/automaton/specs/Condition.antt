@@ -17,14 +17,14 @@ use Rattle.reader.specs.Refusal.{numberOf, placeOf, afterCondition}
 use Rattle.automaton.specs.declared.condition.Assumption.{Assumption}
 use Rattle.automaton.specs.declared.condition.Assumption.the-variants.{Mask, Refused}
 use Rattle.automaton.specs.Alphabet.{badAlphabet}
-use Rattle.automaton.specs.Bits.{bit, word}
+use Rattle.automaton.specs.Bits.{bit, ofBits}
 use Rattle.automaton.specs.Trace.{Satisfies}
 use Rattle.automaton.specs.Valuation.{value}
 
 -- the mask of a condition: bit x says whether input number x has it
 unfoldable pub maskOf : Formula → ℕ → ℕ
-unfolding value word
-maskOf κ i = word (λ x. value κ 1 x 0) (2 ^ i)
+unfolding value ofBits
+maskOf κ i = ofBits (λ x. value κ 1 x 0) (2 ^ i)
 
 -- a mask judges each input number as the condition does on that input alone
 abbrev pub Judges : Formula → ℕ → ℕ → Type 0

@@ -49,7 +49,7 @@ constructionPlace (Built n) = 0
 constructionPlace (Refused x) = placeOf x
 
 -- the buffers of a served call: the automaton of the text's formula with n states, 0 up to 128 states' share, and beyond as they were
-pub record Served (i o : ℕ) (text : List ℕ) (n : ℕ) (transitions accepting transitions′ accepting′ : List ℕ) : Type 0 where
+pub record ConstructionServed (i o : ℕ) (text : List ℕ) (n : ℕ) (transitions accepting transitions′ accepting′ : List ℕ) : Type 0 where
   pub formula : Formula
   pub good : IsGood i (ruleKind i o) text formula
   pub automaton : Automaton formula (letterCount i o) n transitions′ accepting′
@@ -75,6 +75,6 @@ pub record Constructed (i o : ℕ) (text transitions accepting transitions′ ac
   pub number : constructionNumber r ≡ numberOf refusal
   pub place : constructionPlace r ≡ placeOf refusal
   pub answer : r ≡ cond (isNothing refusal) (Built states) (Refused refusal)
-  pub served : refusal ≡ Nothing → Served i o text states transitions accepting transitions′ accepting′
+  pub served : refusal ≡ Nothing → ConstructionServed i o text states transitions accepting transitions′ accepting′
   pub over : refusal ≡ StateCount → Over i o text transitions accepting transitions′ accepting′
   pub untouched : (refusal ≡ Nothing → ⊥) → (refusal ≡ StateCount → ⊥) → (transitions′ ≡ transitions) × (accepting′ ≡ accepting)

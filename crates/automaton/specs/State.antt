@@ -3,18 +3,18 @@
 use Prim.Native.Nat.{ℕ}
 use mathlib.Core.Bool.{Bool}
 use Rattle.reader.specs.Formula.{Formula}
-use Rattle.automaton.specs.Bits.{bit, word}
+use Rattle.automaton.specs.Bits.{bit, ofBits}
 use Rattle.automaton.specs.Valuation.{present, endVector, vectors}
 
 -- the start holds the valuations whose coordinate 0 is 1
 unfoldable pub start : Formula → ℕ
-unfolding word bit vectors
-start φ = word (λ v. bit v 0) (vectors φ)
+unfolding ofBits bit vectors
+start φ = ofBits (λ v. bit v 0) (vectors φ)
 
 -- after a letter, a state holds v where the old one holds the valuation that the letter makes from v
 unfoldable pub after : Formula → ℕ → ℕ → ℕ
-unfolding word bit present vectors
-after φ s a = word (λ v. bit s (present φ a v)) (vectors φ)
+unfolding ofBits bit present vectors
+after φ s a = ofBits (λ v. bit s (present φ a v)) (vectors φ)
 
 -- an accepting state, which the specification calls a goal, holds the end valuation
 unfoldable pub accepts : Formula → ℕ → Bool

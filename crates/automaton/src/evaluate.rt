@@ -2,7 +2,7 @@
 ghost use mathlib.Core.Path.{_≡_};
 ghost use Prim.Native.Nat.{_-_, _≤_};
 ghost use lib.ListN.{getD};
-ghost use Rattle.automaton.specs.Bits.{bit, word};
+ghost use Rattle.automaton.specs.Bits.{bit, ofBits};
 ghost use Rattle.automaton.specs.inner.Nodes.{nodeWord, Evaluated};
 use crate::bits::test_bit;
 use crate::coordinates::coordinate;
@@ -26,7 +26,7 @@ pub(crate) fn word_at(words: &[u64], k: usize) -> u64
 
 // All valuations where bit `argument` of the letter is 1, else none.
 fn name_word(letter: u64, argument: usize) -> u64
-    ensures { λ r. ⌜ r ≡ word (λ v. bit letter argument) 64 ⌝ }
+    ensures { λ r. ⌜ r ≡ ofBits (λ v. bit letter argument) 64 ⌝ }
 {
     if argument < 64 {
         let b = test_bit(letter, argument as u64);

@@ -2,7 +2,7 @@
 ghost use mathlib.Core.Path.{_≡_};
 ghost use Prim.Native.Nat.{_≤_};
 ghost use Rattle.reader.specs.Formula.{Formula};
-ghost use Rattle.automaton.specs.Bits.{word};
+ghost use Rattle.automaton.specs.Bits.{ofBits};
 ghost use Rattle.automaton.specs.Valuation.{value};
 ghost use Rattle.automaton.specs.inner.Representation.{Represents};
 use crate::bits::set_bit;
@@ -11,7 +11,7 @@ use crate::valuation::root_value;
 // The mask: bit x says whether input number x, below `inputs`, has the condition.
 pub(crate) fn condition_mask(nodes: &[usize; 64], count: usize, inputs: usize) -> u16
     requires { ⌜ (count ≤ 64) × (inputs ≤ 16) ⌝ }
-    ensures { λ r. ⌜ ((κ : Formula) → Represents (now (nodes .entry)) count κ → r ≡ word (λ x. value κ 1 x 0) inputs) ⌝ }
+    ensures { λ r. ⌜ ((κ : Formula) → Represents (now (nodes .entry)) count κ → r ≡ ofBits (λ x. value κ 1 x 0) inputs) ⌝ }
 {
     let mut mask: u64 = 0;
     let mut x: u64 = 0;

@@ -4,11 +4,11 @@ ghost use Prim.Native.Nat.{_≤_, _<_};
 ghost use Rattle.reader.specs.Formula.{Formula, operators};
 ghost use Rattle.automaton.specs.Bits.{one};
 ghost use Rattle.automaton.specs.inner.Representation.{Represents};
-ghost use Rattle.automaton.specs.inner.Nodes.{isTemporal, coordinateOf, Located};
+ghost use Rattle.automaton.specs.inner.Nodes.{isTemporalNode, coordinateOf, Located};
 
 // 1 for the node of a temporal operator, 0 for any other.
 fn operator_bit(node: usize) -> u64
-    ensures exact { λ r. ⌜ r ≡ one (isTemporal node) ⌝ }
+    ensures exact { λ r. ⌜ r ≡ one (isTemporalNode node) ⌝ }
     ensures small { λ r. ⌜ r < 2 ⌝ }
 {
     let kind = node % 256;

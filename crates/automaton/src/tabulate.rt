@@ -3,7 +3,7 @@ ghost use mathlib.Core.Path.{_≡_};
 ghost use Prim.Native.Nat.{ℕ, suc, _+_, _*_, _^_, _≤_, _<_};
 ghost use lib.ListN.{length, getD};
 ghost use Rattle.reader.specs.Formula.{Formula, operators};
-ghost use Rattle.automaton.specs.Bits.{bit, word};
+ghost use Rattle.automaton.specs.Bits.{bit, ofBits};
 ghost use Rattle.automaton.specs.inner.Representation.{Represents, Tabulates};
 ghost use Rattle.automaton.specs.inner.Nodes.{Located};
 use crate::operators::operator_nodes;
@@ -13,7 +13,7 @@ use crate::valuation::vector_from;
 // Fills the row of a letter, which begins at `first`, by the valuations that the coordinates' words make from every second valuation.
 fn fill_row(words: &[u64; 6], width: u64, entries: usize, first: usize, table: &mut [u8])
     requires { ⌜ (width ≤ 6) × (entries ≤ 32) × (first + 32 ≤ length (now table)) ⌝ }
-    ensures row { λ r. ⌜ ((k : ℕ) → k < entries → getD (now (table .exit)) (first + k) 0 ≡ word (λ j. bit (getD (now (words .entry)) j 0) (2 * k)) width) ⌝ }
+    ensures row { λ r. ⌜ ((k : ℕ) → k < entries → getD (now (table .exit)) (first + k) 0 ≡ ofBits (λ j. bit (getD (now (words .entry)) j 0) (2 * k)) width) ⌝ }
     ensures front { λ r. ⌜ ((k : ℕ) → k < first → getD (now (table .exit)) k 0 ≡ getD (now (table .entry)) k 0) ⌝ }
 {
     let mut k: usize = 0;

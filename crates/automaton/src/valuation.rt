@@ -3,7 +3,7 @@ ghost use mathlib.Core.Path.{_≡_};
 ghost use Prim.Native.Nat.{ℕ, suc, _≤_, _<_};
 ghost use lib.ListN.{getD};
 ghost use Rattle.reader.specs.Formula.{Formula, operators};
-ghost use Rattle.automaton.specs.Bits.{bit, one, word};
+ghost use Rattle.automaton.specs.Bits.{bit, one, ofBits};
 ghost use Rattle.automaton.specs.Valuation.{value, present, endVector};
 ghost use Rattle.automaton.specs.inner.Representation.{Represents};
 ghost use Rattle.automaton.specs.inner.Nodes.{Located, ownerOf, owner, endOf, endBit, Makes};
@@ -76,7 +76,7 @@ pub(crate) fn letter_words(
 // The valuation that the coordinates' words make from v: its bit j is bit v of word j.
 pub(crate) fn vector_from(words: &[u64; 6], width: u64, v: u64) -> u64
     requires { ⌜ (width ≤ 6) × (v < 64) ⌝ }
-    ensures exact { λ r. ⌜ r ≡ word (λ j. bit (getD (now (words .entry)) j 0) v) width ⌝ }
+    ensures exact { λ r. ⌜ r ≡ ofBits (λ j. bit (getD (now (words .entry)) j 0) v) width ⌝ }
     ensures small { λ r. ⌜ r < 64 ⌝ }
 {
     let mut r: u64 = 0;
@@ -135,7 +135,7 @@ fn end_bit(nodes: &[usize], places: &[usize], j: usize) -> u64
 // The end valuation, from the operators' nodes.
 fn end_word(nodes: &[usize], places: &[usize], width: u64) -> u64
     requires { ⌜ width ≤ 6 ⌝ }
-    ensures { λ r. ⌜ r ≡ word (endBit (now (nodes .entry)) (now (places .entry))) width ⌝ }
+    ensures { λ r. ⌜ r ≡ ofBits (endBit (now (nodes .entry)) (now (places .entry))) width ⌝ }
 {
     let mut r: u64 = 0;
     let mut j: u64 = 0;

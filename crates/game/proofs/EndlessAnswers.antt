@@ -20,7 +20,7 @@ use Rattle.game.specs.Play.{Step, Legal, letters, Along}
 use Rattle.game.specs.Strategy.{BySystem, ByEnvironment}
 use Rattle.game.specs.Tables.{Verdict}
 use Rattle.game.specs.Given.{Solved, GivenSolved}
-use Rattle.game.specs.Rule.{Buffers, Satisfied, Served, RuleSolved}
+use Rattle.game.specs.Rule.{Buffers, Satisfied, RuleServed, RuleSolved}
 use Rattle.game.specs.Way.{bySystem, byEnvironment, ordered, meet}
 use Rattle.game.specs.Endless.{first, Follows, Kept, CanEndless, Defeated, CannotEndless}
 use Rattle.game.specs.EndlessAnswer.{Satisfying, Reaching, Texts, arenaLeft, RuleEndless, GivenEndless}
@@ -91,10 +91,10 @@ module _ (φ : Formula) (G : Arena) (automaton : Automaton φ (G .inputs * G .ou
       }
 
 module _ (fair : Bool) (i o : ℕ) (rule condition : List ℕ) (old new : Buffers) where
-  abbrev texts : {n : ℕ} {can : Bool} → Served fair i o rule condition old new n can → Texts i o rule condition
+  abbrev texts : {n : ℕ} {can : Bool} → RuleServed fair i o rule condition old new n can → Texts i o rule condition
   texts s = record { formula = s .formula; good = s .good; assumption = s .assumption; assumed = s .assumed; judges = s .judges }
 
-  served-endless : (n : ℕ) (can : Bool) → Served fair i o rule condition old new n can → RuleEndless fair i o rule condition new (verdictOf can n)
+  served-endless : (n : ℕ) (can : Bool) → RuleServed fair i o rule condition old new n can → RuleEndless fair i o rule condition new (verdictOf can n)
   served-endless n true s =
       let G : Arena = arenaLeft i o n new (s .assumption) in
       let A = on-product (s .formula) i o n (new .transitions) (new .accepting) (maskOf (s .assumption) i) (s .automaton) in

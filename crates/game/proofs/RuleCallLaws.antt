@@ -25,7 +25,7 @@ use Rattle.automaton.specs.declared.construct.Construction.the-variants.{Built,
 use Rattle.automaton.specs.Limits.{stateLimit}
 use Rattle.automaton.specs.Alphabet.{badAlphabet, letterCount}
 use Rattle.automaton.specs.Condition.{maskOf}
-use Rattle.automaton.specs.Construction.{shortAutomaton, constructRefusal, Constructed, Served as AutomatonServed}
+use Rattle.automaton.specs.Construction.{shortAutomaton, constructRefusal, Constructed, RuleServed as AutomatonServed}
 use Rattle.automaton.proofs.ReadLaws.{count-of}
 use Rattle.automaton.proofs.ConstructionLaws.{long-enough}
 use Rattle.game.specs.declared.answer.Answer.{Answer}
@@ -35,7 +35,7 @@ use Rattle.game.specs.Arena.{Arena, arena}
 use Rattle.game.specs.inner.Rank.{Valid}
 use Rattle.game.specs.Tables.{Tables, Verdict}
 use Rattle.game.specs.Rule.{Buffers, buffers, shortBuffers, ruleRefusal, RuleSolved}
-use Rattle.game.specs.inner.RuleChecks.{Passed, RuleChecked}
+use Rattle.game.specs.inner.RuleChecks.{TestsPassed, RuleChecked}
 use Rattle.game.proofs.AnswerLaws.{verdict-number, verdict-place}
 use Rattle.game.proofs.RuleLaws.{some-state, automaton-valid, can-keep, cannot-keep}
 
@@ -77,7 +77,7 @@ unbuilt-is x y m e =
 
 -- the tests were passed, and the construction was asked
 module _ (fair : Bool) (i o : ℕ) (rule condition : List ℕ) (old : Buffers) (mask : ℕ) (check : RuleChecked i o rule condition old Nothing mask) (t a : List ℕ) where
-  abbrev pass : Passed i o rule condition old (check .reading) (check .condition-reading) mask
+  abbrev pass : TestsPassed i o rule condition old (check .reading) (check .condition-reading) mask
   pass = check .passed refl
 
   -- the two refusals agree from here on: they go by the number of states

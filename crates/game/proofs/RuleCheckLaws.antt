@@ -28,7 +28,7 @@ use Rattle.automaton.specs.Alphabet.{badAlphabet, letterCount}
 use Rattle.automaton.specs.Condition.{Judges, maskOf, conditionRefusal, Conditioned}
 use Rattle.automaton.proofs.AlphabetLaws.{inputs-fit}
 use Rattle.game.specs.Rule.{Buffers, shortBuffers, ruleRefusal}
-use Rattle.game.specs.inner.RuleChecks.{Passed, RuleChecked}
+use Rattle.game.specs.inner.RuleChecks.{TestsPassed, RuleChecked}
 
 -- ---- the condition's own call, once its alphabet and length are in range
 

@@ -71,7 +71,7 @@ ruleRefusal i o rule condition old ρ κ n =
     (cond (ltb stateLimit n) StateCount Nothing)))))
 
 -- a served call: the formulas of the two texts, the automaton, both tables, the verdict and what it promises
-pub record Served (fair : Bool) (i o : ℕ) (rule condition : List ℕ) (old new : Buffers) (n : ℕ) (can : Bool) : Type 0 where
+pub record RuleServed (fair : Bool) (i o : ℕ) (rule condition : List ℕ) (old new : Buffers) (n : ℕ) (can : Bool) : Type 0 where
   pub formula : Formula
   pub good : IsGood i (ruleKind i o) rule formula
   pub assumption : Formula
@@ -97,7 +97,7 @@ pub record RuleSolved (fair : Bool) (i o : ℕ) (rule condition : List ℕ) (old
   pub first : refusal ≡ ruleRefusal i o rule condition old reading condition-reading states
   pub number : answerNumber r ≡ numberOf refusal
   pub place : answerPlace r ≡ placeOf refusal
-  pub served : refusal ≡ Nothing → (can : Bool) × (r ≡ verdictOf can states) × Served fair i o rule condition old new states can
+  pub served : refusal ≡ Nothing → (can : Bool) × (r ≡ verdictOf can states) × RuleServed fair i o rule condition old new states can
   pub refused : (refusal ≡ Nothing → ⊥) → (r ≡ Refused refusal) × (new .system ≡ old .system) × (new .environment ≡ old .environment)
   pub over : refusal ≡ StateCount → Over i o rule (old .transitions) (old .accepting) (new .transitions) (new .accepting)
   pub untouched : (refusal ≡ Nothing → ⊥) → (refusal ≡ StateCount → ⊥) → (new .transitions ≡ old .transitions) × (new .accepting ≡ old .accepting)

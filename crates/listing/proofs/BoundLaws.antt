@@ -26,7 +26,7 @@ use Rattle.automaton.specs.Limits.{stateLimit}
 use Rattle.game.specs.declared.answer.Answer.{Answer}
 use Rattle.game.specs.declared.answer.Answer.the-variants.{Refused}
 use Rattle.game.specs.Answer.{verdictOf}
-use Rattle.game.specs.Rule.{Buffers, shortBuffers, ruleRefusal, Served, RuleSolved}
+use Rattle.game.specs.Rule.{Buffers, shortBuffers, ruleRefusal, RuleServed, RuleSolved}
 use Rattle.listing.specs.Listing.{listing, stateLine, canWord, cannotWord}
 use Rattle.listing.specs.Promise.{outputSize, Prints, Listed}
 use Rattle.listing.proofs.LengthLaws.{system-length, environment-length, line-length, verdict-length, refusal-length}
@@ -98,7 +98,7 @@ module _ {fair : Bool} {i o : ℕ} {rule condition : List ℕ} {old new : Buffer
     few-states : m .states ≤ 128
     few-states = served-states i o rule condition old (m .reading) (m .condition-reading) (m .states) (ap numberOf (sym (m .first)) ∙ z)
 
-    served-line : {can : Bool} → Served fair i o rule condition old new (m .states) can → (s : ℕ) → s < m .states → length (stateLine (2 ^ i) (new .accepting) (new .system) (new .environment) s) ≤ 56
+    served-line : {can : Bool} → RuleServed fair i o rule condition old new (m .states) can → (s : ℕ) → s < m .states → length (stateLine (2 ^ i) (new .accepting) (new .system) (new .environment) s) ≤ 56
     served-line v s h =
         let p = few-inputs in
         let q = few-outputs in
@@ -109,7 +109,7 @@ module _ {fair : Bool} {i o : ℕ} {rule condition : List ℕ} {old new : Buffer
         (λ w. environment-length (2 ^ i) p (new .system) (new .environment) s (let b = w .byte in omega arith))
         (v .tables .won s h))
 
-    served-length : (can : Bool) → Served fair i o rule condition old new (m .states) can → length (listing i new (verdictOf can (m .states))) ≤ outputSize
+    served-length : (can : Bool) → RuleServed fair i o rule condition old new (m .states) can → length (listing i new (verdictOf can (m .states))) ≤ outputSize
     served-length true v = verdict-length (2 ^ i) (new .accepting) (new .system) (new .environment) canWord (m .states) (omega arith) few-states (served-line v)
     served-length false v = verdict-length (2 ^ i) (new .accepting) (new .system) (new .environment) cannotWord (m .states) (omega arith) few-states (served-line v)
 

@@ -9,8 +9,8 @@ use lib.Seq.{sets}
 use Rattle.reader.specs.declared.marks.Kind.the-variants.{Infix}
 use Rattle.reader.specs.declared.levels.Pos.{Pos}
 use Rattle.reader.specs.Formula.{Formula, binary, size, operators, withBinary}
-use Rattle.reader.specs.Marks.{kindOf, binaryOf}
-use Rattle.reader.specs.Grammar.{marks, Derives, lower, infixed}
+use Rattle.reader.specs.Marks.{markKind, binaryOf}
+use Rattle.reader.specs.Grammar.{withoutBlanks, Derives, lower, infixed}
 use Rattle.reader.specs.inner.Nodes.{binaryCode, wordOf, code}
 use Rattle.reader.specs.inner.Words.{nodeOf}
 use Rattle.reader.specs.inner.Steps.{NotBlank, PastMark, LevelAt, levelOf, firstLevel, CanFollow, Readable, Parsed, Consumed}
@@ -22,7 +22,7 @@ use Rattle.reader.proofs.FollowLaws.{follow-level, follow-down, follow-
 pub down : {i : ℕ} (l : ℕ) {text : List ℕ} {p : Pos} {room : ℕ} → Readable i (suc l) text p room → Readable i l text p room
 down {i} l {text} {p} {room} r = go (r .taken) (r .formula) (r .derived) (r .here) (r .fits) (r .few)
   where
-    go : (w : List ℕ) (φ : Formula) → Derives i kindOf (suc l) w φ → marks (drop (p .at) text) ≡ w ++ r .rest → p .nodes + size φ ≤ room → p .coordinate + operators φ ≤ 64 → Readable i l text p room
+    go : (w : List ℕ) (φ : Formula) → Derives i markKind (suc l) w φ → withoutBlanks (drop (p .at) text) ≡ w ++ r .rest → p .nodes + size φ ≤ room → p .coordinate + operators φ ≤ 64 → Readable i l text p room
     go w φ (lower x) e f g =
         record { no-blank = r .no-blank; formula = φ; taken = w; rest = r .rest; here = e; derived = x; follows = follow-down l (r .rest) (r .follows); fits = f; few = g; small = r .small }
     go w φ (infixed {b = b} {u = u} {v = v} {φ = α} {ψ = β} k x y eφ) e f g =
@@ -52,7 +52,7 @@ coordinate-small r k = counts r k .1
 pub alone : {i : ℕ} (l : ℕ) {text : List ℕ} {p : Pos} {out : List ℕ} {q : Pos} {out₁ : List ℕ} → Consumed i l text p out q out₁ → {m : ℕ} → LevelAt text (q .at) m → (m ≡ suc l → ⊥) → Consumed i (suc l) text p out q out₁
 alone {i} l {text} {p} {out} {q} {out₁} first level n = record { past = first .past; within = first .within; no-blank = first .no-blank; reads = go }
   where
-    go : (w rest : List ℕ) (φ : Formula) → marks (drop (p .at) text) ≡ w ++ rest → Derives i kindOf (suc l) w φ → CanFollow (suc l) rest → Parsed text p out q out₁ rest φ
+    go : (w rest : List ℕ) (φ : Formula) → withoutBlanks (drop (p .at) text) ≡ w ++ rest → Derives i markKind (suc l) w φ → CanFollow (suc l) rest → Parsed text p out q out₁ rest φ
     go w rest φ e (lower x) c = first .reads w rest φ e x (follow-down l rest c)
     go w rest φ e (infixed {b = b} {u = u} {v = v} {φ = α} k x y eφ) c =
         let a = first .reads u (b ∷ (v ++ rest)) α (e ∙ append-assoc u (b ∷ v) rest) x (follow-infix l b (v ++ rest) k) in
@@ -71,26 +71,26 @@ module _ {i : ℕ} (l : ℕ) {text : List ℕ} {p : Pos} {room : ℕ} (r : Reada
       β : Formula
       v : List ℕ
       tail : List ℕ
-      kind : kindOf (getD text (q .at) 0) ≡ Infix (suc l)
+      kind : markKind (getD text (q .at) 0) ≡ Infix (suc l)
       left : Parsed text p out q out₁ tail α
-      right-here : marks (drop (o .at) text) ≡ v ++ rest
-      right-derived : Derives i kindOf (suc l) v β
+      right-here : withoutBlanks (drop (o .at) text) ≡ v ++ rest
+      right-derived : Derives i markKind (suc l) v β
       both : φ ≡ binary (binaryOf (getD text (q .at) 0)) α β
 
-    operands : (w rest : List ℕ) (φ : Formula) → marks (drop (p .at) text) ≡ w ++ rest → Derives i kindOf (suc l) w φ → CanFollow (suc l) rest → Operands rest φ
+    operands : (w rest : List ℕ) (φ : Formula) → withoutBlanks (drop (p .at) text) ≡ w ++ rest → Derives i markKind (suc l) w φ → CanFollow (suc l) rest → Operands rest φ
     operands w rest φ e (lower x) c =
         let a = first .reads w rest φ e x (follow-down l rest c) in
         absurd (follow-level l rest c (sym (ap firstLevel (a .left)) ∙ (sym (level .first) ∙ here)))
     operands w rest φ e (infixed {b = b} {u = u} {v = v} {φ = α} {ψ = β} k x y eφ) c =
         let a = first .reads u (b ∷ (v ++ rest)) α (e ∙ append-assoc u (b ∷ v) rest) x (follow-infix l b (v ++ rest) k) in
-        let d : getD text (q .at) 0 ∷ marks (drop (o .at) text) ≡ b ∷ (v ++ rest) = sym (mark .mark) ∙ a .left in
+        let d : getD text (q .at) 0 ∷ withoutBlanks (drop (o .at) text) ≡ b ∷ (v ++ rest) = sym (mark .mark) ∙ a .left in
         let eb : getD text (q .at) 0 ≡ b = cc in
         record {
           α = α;
           β = β;
           v = v;
           tail = b ∷ (v ++ rest);
-          kind = ap kindOf eb ∙ k;
+          kind = ap markKind eb ∙ k;
           left = a;
           right-here = cc;
           right-derived = y;
@@ -131,11 +131,11 @@ module _ {i : ℕ} (l : ℕ) {text : List ℕ} {p : Pos} {room : ℕ} (r : Reada
           (over-ready .1 .0, (omega (arith, a .0, a .2), (a .1, omega (arith, mark .nodes, s .left .nodes, n .nodes, r .fits))))
 
       -- with the operator's node written, the formula has been read
-      pub joined : {s : Pos} {out₃ : List ℕ} → (s .at ≡ z .at) × ((s .nodes ≡ z .nodes + 1) × (s .coordinate ≡ z .coordinate)) → out₃ ≡ set out₂ (z .nodes) (nodeOf i (getD text (q .at) 0) (q .nodes) (q .coordinate) (kindOf (getD text (q .at) 0))) → Consumed i (suc l) text p out s out₃
+      pub joined : {s : Pos} {out₃ : List ℕ} → (s .at ≡ z .at) × ((s .nodes ≡ z .nodes + 1) × (s .coordinate ≡ z .coordinate)) → out₃ ≡ set out₂ (z .nodes) (nodeOf i (getD text (q .at) 0) (q .nodes) (q .coordinate) (markKind (getD text (q .at) 0))) → Consumed i (suc l) text p out s out₃
       unfolding size operators
       joined {s} {out₃} es eo = record { past = omega (arith, es .0, first .past, mark .past, second .past); within = omega (arith, es .0, second .within); no-blank = rw (es .0) (second .no-blank); reads = go }
         where
-          go : (w rest : List ℕ) (φ : Formula) → marks (drop (p .at) text) ≡ w ++ rest → Derives i kindOf (suc l) w φ → CanFollow (suc l) rest → Parsed text p out s out₃ rest φ
+          go : (w rest : List ℕ) (φ : Formula) → withoutBlanks (drop (p .at) text) ≡ w ++ rest → Derives i markKind (suc l) w φ → CanFollow (suc l) rest → Parsed text p out s out₃ rest φ
           go w rest φ e x c =
               let a = operands w rest φ e x c in
               let n = second .reads (a .v) rest (a .β) (a .right-here) (a .right-derived) c in
@@ -148,9 +148,9 @@ module _ {i : ℕ} (l : ℕ) {text : List ℕ} {p : Pos} {room : ℕ} (r : Reada
               let k₂ : o .coordinate ≡ withBinary (binaryOf b) k = omega (arith, mark .coordinate, infix-tick b (suc l) (a .kind) k) in
               let w₁ : out₁ ≡ sets out (p .nodes) (code (p .nodes) (p .coordinate) (a .α)) = a .left .written in
               let w₂ : out₂ ≡ sets out₁ (o .nodes) (code (o .nodes) (o .coordinate) (a .β)) = n .written in
-              let w₃ : nodeOf i b (q .nodes) (q .coordinate) (kindOf b) ≡ wordOf (binaryCode (binaryOf b)) (q .nodes) (q .coordinate) = ap (nodeOf i b (q .nodes) (q .coordinate)) (a .kind) in
+              let w₃ : nodeOf i b (q .nodes) (q .coordinate) (markKind b) ≡ wordOf (binaryCode (binaryOf b)) (q .nodes) (q .coordinate) = ap (nodeOf i b (q .nodes) (q .coordinate)) (a .kind) in
               subst (λ (χ : Formula). Parsed text p out s out₃ rest χ) (sym (a .both)) (record {
-                left = ap (λ (j : ℕ). marks (drop j text)) (es .0) ∙ n .left;
+                left = ap (λ (j : ℕ). withoutBlanks (drop j text)) (es .0) ∙ n .left;
                 nodes = omega (arith, es .1 .0);
                 coordinate = omega (arith, es .1 .1, n .coordinate, infix-tick b (suc l) (a .kind) (operators (a .β)), infix-tick b (suc l) (a .kind) k);
                 written = code-binary (p .nodes) (p .coordinate) (binaryOf b) (a .α) (a .β) out out₁ out₂ out₃ w₁ (w₂ ∙ cc) (eo ∙ cc);

@@ -14,7 +14,7 @@ use borrow.Author.Tests.{eqb-true, eq-eqb, ne-eqb}
 use Rattle.reader.specs.declared.marks.Kind.{Kind}
 use Rattle.reader.specs.declared.marks.Kind.the-variants.{Operand, Prefix, Infix, Open, Close, Other}
 use Rattle.reader.specs.Formula.{Unary, neg, next, weak, eventually, always, Binary, until, release, conj, disj, impl, constant, name, size, withUnary, withBinary, operators}
-use Rattle.reader.specs.Marks.{amongOf, kindOf, isTemporal, allowedBy, kindIn, operandOf, unaryOf, binaryOf}
+use Rattle.reader.specs.Marks.{amongOf, markKind, isTemporalMark, allowedBy, kindIn, operandOf, unaryOf, binaryOf}
 use Rattle.reader.specs.inner.Nodes.{wordOf, code}
 use Rattle.reader.specs.inner.Words.{operandCode, operandArgument, nodeOf}
 use Rattle.reader.specs.inner.Counts.{tick}
@@ -94,8 +94,8 @@ prefixBytes = 33 ∷ 88 ∷ 78 ∷ 70 ∷ 71 ∷ []
 abbrev untilBytes : List ℕ
 untilBytes = 85 ∷ 82 ∷ []
 
-kind-facts : (b : ℕ) → KindFacts b (kindOf b)
-unfolding kindOf tick isTemporal amongOf unaryOf binaryOf
+kind-facts : (b : ℕ) → KindFacts b (markKind b)
+unfolding markKind tick isTemporalMark amongOf unaryOf binaryOf
 kind-facts b =
     choose (KindFacts b) (amongOf b operandBytes) Operand _
     (λ e. among-all OperandByte b operandBytes e (
@@ -129,7 +129,7 @@ kind-facts b =
     only : (x : ℕ) → eqb b x ≡ true → tick x ≡ withBinary (binaryOf x) 0 → tick b ≡ withBinary (binaryOf b) 0
     only x e f = subst (λ (y : ℕ). tick y ≡ withBinary (binaryOf y) 0) (sym (eqb-true b x e)) f
 
-pub operand-byte : (b : ℕ) → kindOf b ≡ Operand → OperandByte b
+pub operand-byte : (b : ℕ) → markKind b ≡ Operand → OperandByte b
 operand-byte b e = subst (KindFacts b) e (kind-facts b)
 
 with-unary : (u : Unary) (k : ℕ) → withUnary u k ≡ k + withUnary u 0
@@ -147,10 +147,10 @@ with-binary disj k = omega arith
 with-binary impl k = omega arith
 
 -- a temporal mark, and no other, takes a coordinate
-pub prefix-tick : (b : ℕ) → kindOf b ≡ Prefix → (k : ℕ) → withUnary (unaryOf b) k ≡ k + tick b
+pub prefix-tick : (b : ℕ) → markKind b ≡ Prefix → (k : ℕ) → withUnary (unaryOf b) k ≡ k + tick b
 prefix-tick b e k = let t : tick b ≡ withUnary (unaryOf b) 0 = subst (KindFacts b) e (kind-facts b) in omega (arith, with-unary (unaryOf b) k)
 
-pub infix-tick : (b l : ℕ) → kindOf b ≡ Infix l → (k : ℕ) → withBinary (binaryOf b) k ≡ k + tick b
+pub infix-tick : (b l : ℕ) → markKind b ≡ Infix l → (k : ℕ) → withBinary (binaryOf b) k ≡ k + tick b
 infix-tick b l e k =
     let f : KindFacts b (Infix l) = subst (KindFacts b) e (kind-facts b) in
     omega (arith, with-binary (binaryOf b) k, f .0)
@@ -190,7 +190,7 @@ module _ (i b k : ℕ) where
       go false false false = refl
 
   -- an argument is small where i is a byte
-  pub argument-small : kindOf b ≡ Operand → i < 256 → k ≤ 64 → operandArgument i b k ≤ 510
+  pub argument-small : markKind b ≡ Operand → i < 256 → k ≤ 64 → operandArgument i b k ≤ 510
   unfolding operandArgument
   argument-small e h g = go (eqb b 48) (eqb b 49) (leb b 100) (operand-byte b e)
     where
@@ -211,11 +211,11 @@ isOther Close = false
 isOther Other = true
 
 -- a mark in reach is that mark of the whole alphabet
-pub same-kind : (i o : ℕ) (t : Bool) (b : ℕ) (k : Kind) → kindIn i o t b ≡ k → isOther k ≡ false → kindOf b ≡ k
+pub same-kind : (i o : ℕ) (t : Bool) (b : ℕ) (k : Kind) → kindIn i o t b ≡ k → isOther k ≡ false → markKind b ≡ k
 unfolding kindIn
 same-kind i o t b k e n = go (allowedBy i o t b) e
   where
-    go : (x : Bool) → cond x (kindOf b) Other ≡ k → kindOf b ≡ k
+    go : (x : Bool) → cond x (markKind b) Other ≡ k → markKind b ≡ k
     go true q = q
     go false q = absurd (true≢false (ap isOther q ∙ n))
 
@@ -226,9 +226,9 @@ infix-level i o t b l e =
 
 -- 0 and the closing parenthesis are always in reach
 pub zero-in : (i o : ℕ) (t : Bool) → kindIn i o t 48 ≡ Operand
-unfolding kindIn allowedBy isTemporal amongOf kindOf
+unfolding kindIn allowedBy isTemporalMark amongOf markKind
 zero-in i o t = refl
 
 pub close-in : (i o : ℕ) (t : Bool) → kindIn i o t 41 ≡ Close
-unfolding kindIn allowedBy isTemporal amongOf kindOf
+unfolding kindIn allowedBy isTemporalMark amongOf markKind
 close-in i o t = refl

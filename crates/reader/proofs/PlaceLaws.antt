@@ -15,11 +15,11 @@ use Rattle.reader.specs.declared.scan.Step.the-variants.{Next, Stuck}
 use Rattle.reader.specs.declared.scan.Scanned.{Scanned}
 use Rattle.reader.specs.declared.scan.Scanned.the-variants.{Whole, Stopped}
 use Rattle.reader.specs.Formula.{Formula}
-use Rattle.reader.specs.Grammar.{marks, Derives, operand, prefix, parens, lower, infixed, Reads}
+use Rattle.reader.specs.Grammar.{withoutBlanks, Derives, operand, prefix, parens, lower, infixed, Reads}
 use Rattle.reader.specs.Place.{Begins, IsPlace}
 use Rattle.reader.specs.inner.Scan.{markStep, scanOf}
 use Rattle.reader.proofs.MarkLaws.{InfixLevel}
-use Rattle.reader.proofs.ScanLaws.{on, stuck, marks-append, run, run-append, run-whole, run-stop}
+use Rattle.reader.proofs.ScanLaws.{on, stuck, withoutBlanks-append, run, run-append, run-whole, run-stop}
 
 -- every infix mark has a level
 abbrev pub Levels : (ℕ → Kind) → Type 0
@@ -35,15 +35,15 @@ completion : Bool → ℕ → List ℕ
 completion true d = 48 ∷ closers d
 completion false d = closers d
 
-marks-closers : (d : ℕ) → marks (closers d) ≡ closers d
-unfolding marks closers
-marks-closers zero = refl
-marks-closers (suc d) = ap (λ (r : List ℕ). 41 ∷ r) (marks-closers d)
+withoutBlanks-closers : (d : ℕ) → withoutBlanks (closers d) ≡ closers d
+unfolding withoutBlanks closers
+withoutBlanks-closers zero = refl
+withoutBlanks-closers (suc d) = ap (λ (r : List ℕ). 41 ∷ r) (withoutBlanks-closers d)
 
-marks-completion : (w : Bool) (d : ℕ) → marks (completion w d) ≡ completion w d
-unfolding marks completion
-marks-completion true d = ap (λ (r : List ℕ). 48 ∷ r) (marks-closers d)
-marks-completion false d = marks-closers d
+withoutBlanks-completion : (w : Bool) (d : ℕ) → withoutBlanks (completion w d) ≡ completion w d
+unfolding withoutBlanks completion
+withoutBlanks-completion true d = ap (λ (r : List ℕ). 48 ∷ r) (withoutBlanks-closers d)
+withoutBlanks-completion false d = withoutBlanks-closers d
 
 module _ (i : ℕ) (kind : ℕ → Kind) where
   -- a derivation takes the run over its marks, to the mode after an operand
@@ -141,7 +141,7 @@ module _ (i : ℕ) (kind : ℕ → Kind) where
     whole-formula s e = whole s true 0 [] false 0 e (λ x φ y. (φ, raise 4 y))
 
     pub accepted : (text : List ℕ) → scanOf kind text 0 true 0 ≡ Whole → (φ : Formula) × Reads i kind text φ
-    accepted text e = whole-formula (marks text) (run-whole kind text 0 true 0 e)
+    accepted text e = whole-formula (withoutBlanks text) (run-whole kind text 0 true 0 e)
 
     module _ (false-operand : kind 48 ≡ Operand) (close : kind 41 ≡ Close) where
       run-closers : (d : ℕ) → run kind (closers d) false d ≡ Next false 0
@@ -155,20 +155,20 @@ module _ (i : ℕ) (kind : ℕ → Kind) where
       run-completion false d = run-closers d
 
       -- what the scan takes can begin a text, and what begins a text the scan takes
-      begins : (s : List ℕ) (w : Bool) (d : ℕ) → run kind (marks s) true 0 ≡ Next w d → Begins i kind s
+      begins : (s : List ℕ) (w : Bool) (d : ℕ) → run kind (withoutBlanks s) true 0 ≡ Next w d → Begins i kind s
       begins s w d e =
-          let m : marks (s ++ completion w d) ≡ marks s ++ completion w d = marks-append s (completion w d) ∙ ap (λ (r : List ℕ). marks s ++ r) (marks-completion w d) in
-          let r : Formulas 4 (marks s ++ completion w d) = whole-formula (marks s ++ completion w d) (run-append kind (marks s) (completion w d) true 0 ∙ ap (λ (x : Step). on x (run kind (completion w d))) e ∙ run-completion w d) in
+          let m : withoutBlanks (s ++ completion w d) ≡ withoutBlanks s ++ completion w d = withoutBlanks-append s (completion w d) ∙ ap (λ (r : List ℕ). withoutBlanks s ++ r) (withoutBlanks-completion w d) in
+          let r : Formulas 4 (withoutBlanks s ++ completion w d) = whole-formula (withoutBlanks s ++ completion w d) (run-append kind (withoutBlanks s) (completion w d) true 0 ∙ ap (λ (x : Step). on x (run kind (completion w d))) e ∙ run-completion w d) in
           (completion w d, r .0, rw m (r .1))
 
-      run-reads : (text : List ℕ) (φ : Formula) → Reads i kind text φ → run kind (marks text) true 0 ≡ Next false 0
+      run-reads : (text : List ℕ) (φ : Formula) → Reads i kind text φ → run kind (withoutBlanks text) true 0 ≡ Next false 0
       unfolding run
       run-reads text φ x = rw append-nil at (passes x [] 0)
 
-      not-begins : (s : List ℕ) → run kind (marks s) true 0 ≡ Stuck → Begins i kind s → ⊥
+      not-begins : (s : List ℕ) → run kind (withoutBlanks s) true 0 ≡ Stuck → Begins i kind s → ⊥
       not-begins s e b =
-          let g : run kind (marks (s ++ b .0)) true 0 ≡ Next false 0 = run-reads (s ++ b .0) (b .1) (b .2) in
-          let m : run kind (marks (s ++ b .0)) true 0 ≡ Stuck = ap (λ (r : List ℕ). run kind r true 0) (marks-append s (b .0)) ∙ run-append kind (marks s) (marks (b .0)) true 0 ∙ ap (λ (x : Step). on x (run kind (marks (b .0)))) e in
+          let g : run kind (withoutBlanks (s ++ b .0)) true 0 ≡ Next false 0 = run-reads (s ++ b .0) (b .1) (b .2) in
+          let m : run kind (withoutBlanks (s ++ b .0)) true 0 ≡ Stuck = ap (λ (r : List ℕ). run kind r true 0) (withoutBlanks-append s (b .0)) ∙ run-append kind (withoutBlanks s) (withoutBlanks (b .0)) true 0 ∙ ap (λ (x : Step). on x (run kind (withoutBlanks (b .0)))) e in
           stuck false 0 (sym m ∙ g)
 
       pub place : (text : List ℕ) (k : ℕ) → scanOf kind text 0 true 0 ≡ Stopped k → IsPlace i kind text k

@@ -15,8 +15,8 @@ use Rattle.reader.specs.declared.reading.Reading.the-variants.{Good, Too
 use Rattle.reader.specs.declared.levels.Pos.{Pos}
 use Rattle.reader.specs.Limits.{textLimit, nodeLimit, operatorLimit, tooLong}
 use Rattle.reader.specs.Formula.{Formula, size, operators}
-use Rattle.reader.specs.Marks.{kindOf, kindIn}
-use Rattle.reader.specs.Grammar.{marks, Derives, operand, prefix, parens, lower, infixed, Reads}
+use Rattle.reader.specs.Marks.{markKind, kindIn}
+use Rattle.reader.specs.Grammar.{withoutBlanks, Derives, operand, prefix, parens, lower, infixed, Reads}
 use Rattle.reader.specs.Place.{IsPlace}
 use Rattle.reader.specs.Reading.{IsGood, ReadingOf}
 use Rattle.reader.specs.inner.Nodes.{Written}
@@ -28,7 +28,7 @@ use Rattle.reader.proofs.SizeLaws.{count-marks, count-nodes, count-oper
 use Rattle.reader.proofs.PlaceLaws.{accepted, place}
 
 -- what is derived from the marks in reach is derived from all marks
-pub whole-alphabet : (i o : ℕ) (t : Bool) {l : ℕ} {w : List ℕ} {φ : Formula} → Derives i (kindIn i o t) l w φ → Derives i kindOf l w φ
+pub whole-alphabet : (i o : ℕ) (t : Bool) {l : ℕ} {w : List ℕ} {φ : Formula} → Derives i (kindIn i o t) l w φ → Derives i markKind l w φ
 whole-alphabet i o t (operand {b = b} k e) = operand (same-kind i o t b Operand k refl) e
 whole-alphabet i o t (prefix {b = b} k x e) = prefix (same-kind i o t b Prefix k refl) (whole-alphabet i o t x) e
 whole-alphabet i o t (parens {a = a} {b = b} ka kb x) = parens (same-kind i o t a Open ka refl) (same-kind i o t b Close kb refl) (whole-alphabet i o t x)
@@ -99,9 +99,9 @@ module _ (i o : ℕ) (t : Bool) (text : List ℕ) where
         record {
           no-blank = blanks .no-blank;
           formula = φ;
-          taken = marks text;
+          taken = withoutBlanks text;
           rest = [];
-          here = blanks .same ∙ sym (append-nil (marks text));
+          here = blanks .same ∙ sym (append-nil (withoutBlanks text));
           derived = whole-alphabet i o t (g .reads);
           follows = tt;
           fits = omega (arith, g .few-nodes);
@@ -112,5 +112,5 @@ module _ (i o : ℕ) (t : Bool) (text : List ℕ) where
     pub written : (n : ℕ) (out : List ℕ) (r : Pos) (out′ : List ℕ) → Consumed i 4 text p out r out′ → Written i K text (Good n) out out′
     unfolding Written
     written n out r out′ k φ g =
-        let a = k .reads (marks text) [] φ (blanks .same ∙ sym (append-nil (marks text))) (whole-alphabet i o t (g .reads)) tt in
+        let a = k .reads (withoutBlanks text) [] φ (blanks .same ∙ sym (append-nil (withoutBlanks text))) (whole-alphabet i o t (g .reads)) tt in
         a .written ∙ cc

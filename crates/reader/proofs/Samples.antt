@@ -5,8 +5,8 @@ use mathlib.Core.Bool.{true}
 use mathlib.Core.List.{[], _∷_}
 use Prim.Native.Nat.{_+_, _*_}
 use Rattle.reader.specs.Formula.{Formula, eventually, next, conj, until, name, unary, binary, size, operators}
-use Rattle.reader.specs.Marks.{kindIn, allowedBy, isTemporal, amongOf, kindOf, operandOf, unaryOf, binaryOf}
-use Rattle.reader.specs.Grammar.{marks, Reads, operand, prefix, parens, lower, infixed}
+use Rattle.reader.specs.Marks.{kindIn, allowedBy, isTemporalMark, amongOf, markKind, operandOf, unaryOf, binaryOf}
+use Rattle.reader.specs.Grammar.{withoutBlanks, Reads, operand, prefix, parens, lower, infixed}
 use Rattle.reader.specs.Place.{IsPlace}
 use Rattle.reader.specs.inner.Nodes.{code, nodesOf}
 use Rattle.reader.specs.inner.Scan.{stepOf, scanOf}
@@ -17,7 +17,7 @@ abbrev again : Formula
 again = unary eventually (binary conj (name 0) (unary next (name 0)))
 
 reads-again : Reads 1 (kindIn 1 1 true) (70 ∷ 40 ∷ 97 ∷ 38 ∷ 88 ∷ 97 ∷ 41 ∷ []) again
-unfolding marks kindIn allowedBy isTemporal amongOf kindOf operandOf unaryOf binaryOf
+unfolding withoutBlanks kindIn allowedBy isTemporalMark amongOf markKind operandOf unaryOf binaryOf
 reads-again =
     lower (lower (lower (lower
     (prefix refl (parens {w = 97 ∷ 38 ∷ 88 ∷ 97 ∷ []} refl refl
@@ -30,7 +30,7 @@ nodes-again = refl
 
 -- p U a, with a blank: p has the bit behind the one input
 reads-until : Reads 1 (kindIn 1 1 true) (112 ∷ 32 ∷ 85 ∷ 97 ∷ []) (binary until (name 1) (name 0))
-unfolding marks kindIn allowedBy isTemporal amongOf kindOf operandOf unaryOf binaryOf
+unfolding withoutBlanks kindIn allowedBy isTemporalMark amongOf markKind operandOf unaryOf binaryOf
 reads-until = lower (lower (lower (infixed {u = 112 ∷ []} refl (operand refl refl) (lower (operand refl refl)) refl)))
 
 -- the empty text is bad at 0, and `a b` at 2, where b is out of reach
@@ -39,5 +39,5 @@ unfolding scanOf
 empty-text = place-of 1 1 true [] 0 refl
 
 second-input : IsPlace 1 (kindIn 1 1 true) (97 ∷ 32 ∷ 98 ∷ []) 2
-unfolding scanOf stepOf kindIn allowedBy isTemporal amongOf kindOf
+unfolding scanOf stepOf kindIn allowedBy isTemporalMark amongOf markKind
 second-input = place-of 1 1 true (97 ∷ 32 ∷ 98 ∷ []) 2 refl

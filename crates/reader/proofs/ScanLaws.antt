@@ -15,7 +15,7 @@ use Rattle.reader.specs.declared.marks.Kind.the-variants.{Operand, Prefi
 use Rattle.reader.specs.declared.scan.Step.{Step}
 use Rattle.reader.specs.declared.scan.Step.the-variants.{Next, Stuck}
 use Rattle.reader.specs.declared.scan.Scanned.the-variants.{Whole, Stopped}
-use Rattle.reader.specs.Grammar.{marks}
+use Rattle.reader.specs.Grammar.{withoutBlanks}
 use Rattle.reader.specs.inner.Scan.{markStep, stepOf, scanOf, follow, endOf}
 
 -- a step, and what comes after it
@@ -29,12 +29,12 @@ stuck w d e = let z : _≡_ {A = ℕ} 0 1 = cc in omega arith
 no-place : (k : ℕ) → Stopped k ≡ Whole → ⊥
 no-place k e = let z : _≡_ {A = ℕ} 0 1 = cc in omega arith
 
-pub marks-append : (u v : List ℕ) → marks (u ++ v) ≡ marks u ++ marks v
-unfolding marks
-marks-append [] v = refl
-marks-append (b ∷ u) v = go (marks-append u v) (eqb b 32)
+pub withoutBlanks-append : (u v : List ℕ) → withoutBlanks (u ++ v) ≡ withoutBlanks u ++ withoutBlanks v
+unfolding withoutBlanks
+withoutBlanks-append [] v = refl
+withoutBlanks-append (b ∷ u) v = go (withoutBlanks-append u v) (eqb b 32)
   where
-    go : marks (u ++ v) ≡ marks u ++ marks v → (t : Bool) → cond t (marks (u ++ v)) (b ∷ marks (u ++ v)) ≡ cond t (marks u) (b ∷ marks u) ++ marks v
+    go : withoutBlanks (u ++ v) ≡ withoutBlanks u ++ withoutBlanks v → (t : Bool) → cond t (withoutBlanks (u ++ v)) (b ∷ withoutBlanks (u ++ v)) ≡ cond t (withoutBlanks u) (b ∷ withoutBlanks u) ++ withoutBlanks v
     go e true = e
     go e false = ap (λ (r : List ℕ). b ∷ r) e
 
@@ -54,34 +54,34 @@ module _ (kind : ℕ → Kind) where
       go rec Stuck = refl
 
   -- the step at a byte is that at its mark, if it has one
-  run-step : (b : ℕ) (s : List ℕ) (w : Bool) (d : ℕ) → run (marks (b ∷ s)) w d ≡ on (stepOf kind b w d) (run (marks s))
-  unfolding run marks stepOf
+  run-step : (b : ℕ) (s : List ℕ) (w : Bool) (d : ℕ) → run (withoutBlanks (b ∷ s)) w d ≡ on (stepOf kind b w d) (run (withoutBlanks s))
+  unfolding run withoutBlanks stepOf
   run-step b s w d = go (eqb b 32)
     where
-      go : (t : Bool) → run (cond t (marks s) (b ∷ marks s)) w d ≡ on (cond t (Next w d) (markStep (kind b) w d)) (run (marks s))
+      go : (t : Bool) → run (cond t (withoutBlanks s) (b ∷ withoutBlanks s)) w d ≡ on (cond t (Next w d) (markStep (kind b) w d)) (run (withoutBlanks s))
       go true = refl
       go false = refl
 
   -- the pass over s stops at j, counted from its beginning
   pub record StopsAt (s : List ℕ) (w : Bool) (d j : ℕ) : Type 0 where
     pub within : j ≤ length s
-    pub passed : (w′ : Bool) × (d′ : ℕ) × (run (marks (take j s)) w d ≡ Next w′ d′)
-    pub stuck-at : j < length s → run (marks (take (suc j) s)) w d ≡ Stuck
-    pub not-whole : run (marks s) w d ≡ Next false 0 → ⊥
+    pub passed : (w′ : Bool) × (d′ : ℕ) × (run (withoutBlanks (take j s)) w d ≡ Next w′ d′)
+    pub stuck-at : j < length s → run (withoutBlanks (take (suc j) s)) w d ≡ Stuck
+    pub not-whole : run (withoutBlanks s) w d ≡ Next false 0 → ⊥
 
-  pub run-whole : (s : List ℕ) (at : ℕ) (w : Bool) (d : ℕ) → scanOf kind s at w d ≡ Whole → run (marks s) w d ≡ Next false 0
-  unfolding run marks scanOf
+  pub run-whole : (s : List ℕ) (at : ℕ) (w : Bool) (d : ℕ) → scanOf kind s at w d ≡ Whole → run (withoutBlanks s) w d ≡ Next false 0
+  unfolding run withoutBlanks scanOf
   run-whole [] at true d e = absurd (no-place at e)
   run-whole [] at false zero e = refl
   run-whole [] at false (suc d) e = absurd (no-place at e)
   run-whole (b ∷ s) at w d e = run-step b s w d ∙ go (λ w′ d′ q. run-whole s (suc at) w′ d′ q) (stepOf kind b w d) e
     where
-      go : ((w′ : Bool) (d′ : ℕ) → scanOf kind s (suc at) w′ d′ ≡ Whole → run (marks s) w′ d′ ≡ Next false 0) → (x : Step) → follow x at (scanOf kind s (suc at)) ≡ Whole → on x (run (marks s)) ≡ Next false 0
+      go : ((w′ : Bool) (d′ : ℕ) → scanOf kind s (suc at) w′ d′ ≡ Whole → run (withoutBlanks s) w′ d′ ≡ Next false 0) → (x : Step) → follow x at (scanOf kind s (suc at)) ≡ Whole → on x (run (withoutBlanks s)) ≡ Next false 0
       go rec (Next w′ d′) q = rec w′ d′ q
       go rec Stuck q = absurd (no-place at q)
 
   pub run-stop : (s : List ℕ) (at : ℕ) (w : Bool) (d k : ℕ) → scanOf kind s at w d ≡ Stopped k → (j : ℕ) × (k ≡ at + j) × StopsAt s w d j
-  unfolding run marks scanOf
+  unfolding run withoutBlanks scanOf
   run-stop [] at true d k e = (0, (let f : at ≡ k = cc in omega arith), record { within = omega arith; passed = (true, d, refl); stuck-at = λ h. absurd (not-suc-le-zero h); not-whole = λ q. let z : true ≡ false = cc in absurd (true≢false z) })
   run-stop [] at false zero k e = absurd (no-place k (sym e))
   run-stop [] at false (suc d) k e = (0, (let f : at ≡ k = cc in omega arith), record { within = omega arith; passed = (false, suc d, refl); stuck-at = λ h. absurd (not-suc-le-zero h); not-whole = λ q. let z : suc d ≡ 0 = cc in omega arith })
@@ -91,9 +91,9 @@ module _ (kind : ℕ → Kind) where
       go rec (Next w′ d′) p q =
           let r = rec w′ d′ q in
           let t = r .2 in
-          let m : (u : List ℕ) → run (marks (b ∷ u)) w d ≡ run (marks u) w′ d′ = λ u. run-step b u w d ∙ ap (λ (x : Step). on x (run (marks u))) p in
+          let m : (u : List ℕ) → run (withoutBlanks (b ∷ u)) w d ≡ run (withoutBlanks u) w′ d′ = λ u. run-step b u w d ∙ ap (λ (x : Step). on x (run (withoutBlanks u))) p in
           (suc (r .0), (let f : k ≡ suc at + r .0 = r .1 in omega arith), record { within = suc-le-suc (t .within); passed = (t .passed .0, t .passed .1, m (take (r .0) s) ∙ t .passed .2); stuck-at = λ h. m (take (suc (r .0)) s) ∙ t .stuck-at (le-of-suc-le-suc h); not-whole = λ g. t .not-whole (sym (m s) ∙ g) })
-      go rec Stuck p q = (0, (let f : at ≡ k = cc in omega arith), record { within = omega arith; passed = (w, d, refl); stuck-at = λ h. run-step b [] w d ∙ ap (λ (x : Step). on x (run [])) p; not-whole = λ g. stuck false 0 (sym (run-step b s w d ∙ ap (λ (x : Step). on x (run (marks s))) p) ∙ g) })
+      go rec Stuck p q = (0, (let f : at ≡ k = cc in omega arith), record { within = omega arith; passed = (w, d, refl); stuck-at = λ h. run-step b [] w d ∙ ap (λ (x : Step). on x (run [])) p; not-whole = λ g. stuck false 0 (sym (run-step b s w d ∙ ap (λ (x : Step). on x (run (withoutBlanks s))) p) ∙ g) })
 
 -- ---- one turn of the loop
 

@@ -8,7 +8,7 @@ use native.Mathlib.Omega.{arith}
 use Rattle.reader.specs.declared.marks.Kind.{Kind}
 use Rattle.reader.specs.declared.marks.Kind.the-variants.{Operand, Prefix, Infix, Open, Close, Other}
 use Rattle.reader.specs.Formula.{Formula, operators}
-use Rattle.reader.specs.Marks.{kindOf, kindIn, isTemporal, allowedBy, unaryOf, binaryOf}
+use Rattle.reader.specs.Marks.{markKind, kindIn, isTemporalMark, allowedBy, unaryOf, binaryOf}
 use Rattle.reader.specs.Grammar.{Derives, operand, prefix, parens, lower, infixed}
 use Rattle.reader.specs.inner.Counts.{tick}
 use Rattle.reader.proofs.BoolLaws.{on}
@@ -26,7 +26,7 @@ isOther Other = true
 no-tick : (i o b : ℕ) (k : Kind) → kindIn i o false b ≡ k → isOther k ≡ false → tick b ≡ 0
 unfolding kindIn allowedBy tick
 no-tick i o b k e n =
-    on (isTemporal b)
+    on (isTemporalMark b)
     (λ t. absurd (mathlib.Core.Bool.true≢false (ap isOther (let f : Other ≡ k = rw t at e in f) ∙ n)))
     (λ f. rw f)
 

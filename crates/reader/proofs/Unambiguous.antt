@@ -20,7 +20,7 @@ use Rattle.reader.specs.declared.reading.Reading.{Reading}
 use Rattle.reader.specs.declared.reading.Reading.the-variants.{Good, TooLong, Bad, TooManyNodes, TooManyOperators}
 use Rattle.reader.specs.Limits.{textLimit, nodeLimit, operatorLimit}
 use Rattle.reader.specs.Formula.{Formula, size, operators}
-use Rattle.reader.specs.Marks.{kindOf, kindIn}
+use Rattle.reader.specs.Marks.{markKind, kindIn}
 use Rattle.reader.specs.Grammar.{Derives, operand, prefix, parens, lower, infixed, Reads}
 use Rattle.reader.specs.Place.{Begins, IsPlace}
 use Rattle.reader.specs.Reading.{IsGood, ReadingOf}
@@ -36,10 +36,10 @@ abbrev Same : List ℕ → List ℕ → Formula → Formula → Type 0
 Same s t φ ψ = (s ≡ t) × (φ ≡ ψ)
 
 -- the first bytes of equal lists are of one kind
-one-kind : (a b : ℕ) (s t : List ℕ) (j k : Kind) → _≡_ {A = List ℕ} (a ∷ s) (b ∷ t) → kindOf a ≡ j → kindOf b ≡ k → j ≡ k
-one-kind a b s t j k e f g = let h : a ≡ b = cc in sym f ∙ ap kindOf h ∙ g
+one-kind : (a b : ℕ) (s t : List ℕ) (j k : Kind) → _≡_ {A = List ℕ} (a ∷ s) (b ∷ t) → markKind a ≡ j → markKind b ≡ k → j ≡ k
+one-kind a b s t j k e f g = let h : a ≡ b = cc in sym f ∙ ap markKind h ∙ g
 
-same : {i l : ℕ} {w : List ℕ} {φ : Formula} → Derives i kindOf l w φ → {v : List ℕ} {ψ : Formula} → Derives i kindOf l v ψ → (s t : List ℕ) → w ++ s ≡ v ++ t → CanFollow l s → CanFollow l t → Same s t φ ψ
+same : {i l : ℕ} {w : List ℕ} {φ : Formula} → Derives i markKind l w φ → {v : List ℕ} {ψ : Formula} → Derives i markKind l v ψ → (s t : List ℕ) → w ++ s ≡ v ++ t → CanFollow l s → CanFollow l t → Same s t φ ψ
 same (operand {b = a} j eφ) (operand {b = b} k eψ) s t e c d = let h : a ≡ b = cc in (cc, cc)
 same (operand {b = a} j eφ) (prefix {b = b} k y eψ) s t e c d = let f : Operand ≡ Prefix = one-kind a b _ _ _ _ e j k in let z : _≡_ {A = ℕ} 0 1 = cc in absurd (omega arith)
 same (operand {b = a} j eφ) (parens {a = b} k k′ y) s t e c d = let f : Operand ≡ Open = one-kind a b _ _ _ _ e j k in let z : _≡_ {A = ℕ} 0 1 = cc in absurd (omega arith)

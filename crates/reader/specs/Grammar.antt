@@ -13,9 +13,9 @@ use Rattle.reader.specs.Formula.{Formula, unary, binary}
 use Rattle.reader.specs.Marks.{operandOf, unaryOf, binaryOf}
 
 -- the bytes but for the blanks
-unfoldable pub marks : List ℕ → List ℕ
-marks [] = []
-marks (b ∷ s) = cond (eqb b 32) (marks s) (b ∷ marks s)
+unfoldable pub withoutBlanks : List ℕ → List ℕ
+withoutBlanks [] = []
+withoutBlanks (b ∷ s) = cond (eqb b 32) (withoutBlanks s) (b ∷ withoutBlanks s)
 
 -- the marks are a formula of the level, in a text with i inputs where `kind` says what each byte is
 pub data Derives (i : ℕ) (kind : ℕ → Kind) : ℕ → List ℕ → Formula → Type 0 where
@@ -33,4 +33,4 @@ pub data Derives (i : ℕ) (kind : ℕ → Kind) : ℕ → List ℕ → Formula 
 
 -- the text is the formula
 abbrev pub Reads : ℕ → (ℕ → Kind) → List ℕ → Formula → Type 0
-Reads i kind text φ = Derives i kind 4 (marks text) φ
+Reads i kind text φ = Derives i kind 4 (withoutBlanks text) φ

@@ -15,8 +15,8 @@ amongOf b [] = false
 amongOf b (x ∷ xs) = cond (eqb x b) true (amongOf b xs)
 
 -- 0 1 a b c d p q r s; ! X N F G; U R; &; |; >; ( and )
-unfoldable pub kindOf : ℕ → Kind
-kindOf b =
+unfoldable pub markKind : ℕ → Kind
+markKind b =
     cond (amongOf b (48 ∷ 49 ∷ 97 ∷ 98 ∷ 99 ∷ 100 ∷ 112 ∷ 113 ∷ 114 ∷ 115 ∷ [])) Operand
     (cond (amongOf b (33 ∷ 88 ∷ 78 ∷ 70 ∷ 71 ∷ [])) Prefix
     (cond (amongOf b (85 ∷ 82 ∷ [])) (Infix 1)
@@ -27,19 +27,19 @@ kindOf b =
     (cond (eqb b 41) Close Other)))))))
 
 -- X N F G U R
-unfoldable pub isTemporal : ℕ → Bool
-isTemporal b = amongOf b (88 ∷ 78 ∷ 70 ∷ 71 ∷ 85 ∷ 82 ∷ [])
+unfoldable pub isTemporalMark : ℕ → Bool
+isTemporalMark b = amongOf b (88 ∷ 78 ∷ 70 ∷ 71 ∷ 85 ∷ 82 ∷ [])
 
 -- whether a byte is in reach: of a b c d the first i, of p q r s the first o, temporal marks where t says so, and every other byte
 unfoldable pub allowedBy : ℕ → ℕ → Bool → ℕ → Bool
 allowedBy i o t b =
-    cond (isTemporal b) t
+    cond (isTemporalMark b) t
     (cond (leb 97 b && leb b 100) (ltb (b - 97) i)
     (cond (leb 112 b && leb b 115) (ltb (b - 112) o) true))
 
 -- the kind of a byte in a text with i inputs and o outputs; t says whether temporal marks may stand there
 unfoldable pub kindIn : ℕ → ℕ → Bool → ℕ → Kind
-kindIn i o t b = cond (allowedBy i o t b) (kindOf b) Other
+kindIn i o t b = cond (allowedBy i o t b) (markKind b) Other
 
 -- a rule: all the names and marks; a condition: input names only, and no temporal mark
 abbrev pub ruleKind : ℕ → ℕ → ℕ → Kind

@@ -2,7 +2,7 @@
 ghost use mathlib.Core.Path.{_≡_};
 ghost use Prim.Native.Nat.{_+_, _≤_, _<_};
 ghost use lib.ListN.{length, getD, set};
-ghost use Rattle.reader.specs.Marks.{kindOf};
+ghost use Rattle.reader.specs.Marks.{markKind};
 ghost use Rattle.reader.specs.inner.Nodes.{wordOf};
 ghost use Rattle.reader.specs.inner.Words.{nodeOf};
 ghost use Rattle.reader.specs.inner.Steps.{NotBlank, PastBlanks, LevelAt, PastMark, Readable, Consumed, isOpen, isPrefix};
@@ -67,7 +67,7 @@ fn word(kind: u8, left: usize, argument: usize) -> usize
 // The node of a mark, in a text with i inputs.
 fn node(b: u8, i: u8, left: usize, coordinate: usize) -> usize
     requires { ⌜ (left ≤ 64) × (coordinate ≤ 64) ⌝ }
-    ensures { λ r. ⌜ r ≡ nodeOf i b left coordinate (kindOf b) ⌝ }
+    ensures { λ r. ⌜ r ≡ nodeOf i b left coordinate (markKind b) ⌝ }
 {
     let k = kind_of(b);
     match k {
@@ -105,7 +105,7 @@ fn over(text: &[u8], p: Pos) -> Pos
 fn put(text: &[u8], i: u8, p: Pos, left: usize, r: Pos, out: &mut [usize]) -> Pos
     requires { ⌜ (p .at < length (now text)) × ((left ≤ 64) × ((p .coordinate ≤ 64) × (r .nodes < length (now out)))) ⌝ }
     ensures result { λ s. ⌜ (s .at ≡ r .at) × ((s .nodes ≡ r .nodes + 1) × (s .coordinate ≡ r .coordinate)) ⌝ }
-    ensures stored { λ _. ⌜ now (out .exit) ≡ set (now (out .entry)) (r .nodes) (nodeOf i (getD (now (text .entry)) (p .at) 0) left (p .coordinate) (kindOf (getD (now (text .entry)) (p .at) 0))) ⌝ }
+    ensures stored { λ _. ⌜ now (out .exit) ≡ set (now (out .entry)) (r .nodes) (nodeOf i (getD (now (text .entry)) (p .at) 0) left (p .coordinate) (markKind (getD (now (text .entry)) (p .at) 0))) ⌝ }
 {
     let at = p.at;
     let n = r.nodes;
@@ -119,7 +119,7 @@ fn put(text: &[u8], i: u8, p: Pos, left: usize, r: Pos, out: &mut [usize]) -> Po
 
 // Whether a byte opens a parenthesis.
 fn is_open(b: u8) -> bool
-    ensures { λ r. ⌜ r ≡ isOpen (kindOf b) ⌝ }
+    ensures { λ r. ⌜ r ≡ isOpen (markKind b) ⌝ }
 {
     let k = kind_of(b);
     match k {
@@ -134,7 +134,7 @@ fn is_open(b: u8) -> bool
 
 // Whether a byte is a prefix mark.
 fn is_prefix(b: u8) -> bool
-    ensures { λ r. ⌜ r ≡ isPrefix (kindOf b) ⌝ }
+    ensures { λ r. ⌜ r ≡ isPrefix (markKind b) ⌝ }
 {
     let k = kind_of(b);
     match k {

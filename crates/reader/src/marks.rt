@@ -1,7 +1,7 @@
 // What each byte of a text is.
 ghost use mathlib.Core.Path.{_≡_};
 ghost use Rattle.reader.specs.declared.marks.Kind.the-variants.{Operand};
-ghost use Rattle.reader.specs.Marks.{amongOf, kindOf, isTemporal, allowedBy, unaryOf, binaryOf};
+ghost use Rattle.reader.specs.Marks.{amongOf, markKind, isTemporalMark, allowedBy, unaryOf, binaryOf};
 ghost use Rattle.reader.specs.inner.Nodes.{unaryCode, binaryCode};
 ghost use Rattle.reader.specs.inner.Words.{operandCode, operandArgument};
 
@@ -31,7 +31,7 @@ fn among(b: u8, bytes: &[u8]) -> bool
 
 // The kind of a byte, every name and mark being in reach.
 pub(crate) fn kind_of(b: u8) -> Kind
-    ensures { λ r. ⌜ r ≡ kindOf b ⌝ }
+    ensures { λ r. ⌜ r ≡ markKind b ⌝ }
 {
     if among(b, b"01abcdpqrs") {
         return Kind::Operand;
@@ -62,7 +62,7 @@ pub(crate) fn kind_of(b: u8) -> Kind
 
 // Whether a byte is a temporal mark.
 pub(crate) fn is_temporal(b: u8) -> bool
-    ensures { λ r. ⌜ r ≡ isTemporal b ⌝ }
+    ensures { λ r. ⌜ r ≡ isTemporalMark b ⌝ }
 {
     among(b, b"XNFGUR")
 }
@@ -140,7 +140,7 @@ pub(crate) fn infix_kind(b: u8) -> u8
 
 // The argument of an operand's node: the letter bit of a name behind i inputs, the coordinate that is next for a constant.
 pub(crate) fn operand_argument(b: u8, i: u8, coordinate: usize) -> usize
-    requires { ⌜ kindOf b ≡ Operand ⌝ }
+    requires { ⌜ markKind b ≡ Operand ⌝ }
     ensures { λ r. ⌜ r ≡ operandArgument i b coordinate ⌝ }
 {
     if b == b'0' {

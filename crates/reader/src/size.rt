@@ -1,7 +1,7 @@
 // The counts of a text: its nodes and its temporal operators.
 ghost use mathlib.Core.Path.{_≡_};
 ghost use Prim.Native.Nat.{_≤_};
-ghost use Rattle.reader.specs.Marks.{kindOf};
+ghost use Rattle.reader.specs.Marks.{markKind};
 ghost use Rattle.reader.specs.inner.Counts.{tick, weightOf, countOf};
 use crate::marks::Kind;
 use crate::marks::is_temporal;
@@ -19,7 +19,7 @@ fn tick_of(b: u8) -> usize
 
 // What a byte adds to the count of temporal operators, or of nodes.
 fn weight(b: u8, temporal: bool) -> usize
-    ensures value { λ r. ⌜ r ≡ weightOf temporal (tick b) (kindOf b) ⌝ }
+    ensures value { λ r. ⌜ r ≡ weightOf temporal (tick b) (markKind b) ⌝ }
     ensures small { λ r. ⌜ r ≤ 1 ⌝ }
 {
     let k = kind_of(b);

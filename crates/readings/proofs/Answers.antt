@@ -18,9 +18,9 @@ use Rattle.game.specs.declared.answer.Answer.{Answer}
 use Rattle.game.specs.Answer.{verdictOf}
 use Rattle.game.specs.Arena.{Arena, arena, isFair}
 use Rattle.game.specs.Tables.{Tables, Verdict}
-use Rattle.game.specs.Rule.{Buffers, shortBuffers, ruleRefusal, Served}
+use Rattle.game.specs.Rule.{Buffers, shortBuffers, ruleRefusal, RuleServed}
 use Rattle.game.proofs.Determined.{one-winner}
-use Rattle.readings.specs.Reading.{Row, lettersOf, arenaFor, VerdictOn, Reading, SolvedFor, Answered, All}
+use Rattle.readings.specs.Row.{Row, lettersOf, arenaFor, VerdictOn, RowHolds, SolvedFor, Answered, All}
 use Rattle.readings.specs.Rows.{rows}
 use Rattle.readings.proofs.Readings.{readings}
 
@@ -44,7 +44,7 @@ pub record Held (r : Row) (φ κ : Formula) (old new : Buffers) (can : Bool) : T
   pub tables : Tables (isFair (r .mode)) (arenaFor r (new .transitions) (new .accepting) mask) (old .system) (old .environment) (new .system) (new .environment)
   pub verdict : Verdict (isFair (r .mode)) (arenaFor r (new .transitions) (new .accepting) mask) (new .system) (new .environment) 0 can
 
-module _ (r : Row) (reading : Reading r) (old new : Buffers) (answer : Answer) (long : shortBuffers (r .inputs) (r .outputs) old ≡ false) (solved : SolvedFor r old new answer) where
+module _ (r : Row) (reading : RowHolds r) (old new : Buffers) (answer : Answer) (long : shortBuffers (r .inputs) (r .outputs) old ≡ false) (solved : SolvedFor r old new answer) where
   abbrev i : ℕ
   i = r .inputs
 
@@ -63,7 +63,7 @@ module _ (r : Row) (reading : Reading r) (old new : Buffers) (answer : Answer) (
       let f = one-reading i 0 false (r .condition) (solved .condition-read) (good-reading i (conditionKind i) (r .condition) (reading .assumption) (reading .assumed)) in
       solved .first ∙ rw (reading .small, reading .short, long, e, f, same-count, le-ltb stateLimit (r .count) (reading .few))
 
-  held : (can : Bool) → Served (isFair (r .mode)) i o (r .rule) (r .condition) old new (solved .states) can → Held r (reading .formula) (reading .assumption) old new can
+  held : (can : Bool) → RuleServed (isFair (r .mode)) i o (r .rule) (r .condition) old new (solved .states) can → Held r (reading .formula) (reading .assumption) old new can
   held can s =
       let eφ : s .formula ≡ reading .formula = one-formula i o true (r .rule) (s .good .reads) (reading .good .reads) in
       let eκ : s .assumption ≡ reading .assumption = one-formula i 0 false (r .condition) (s .assumed .reads) (reading .assumed .reads) in
@@ -91,7 +91,7 @@ module _ (r : Row) (reading : Reading r) (old new : Buffers) (answer : Answer) (
       (w .1 ∙ ap₂ verdictOf e same-count, subst (λ (can : Bool). Held r (reading .formula) (reading .assumption) old new can) e h)
 
 -- every row that is a reading is answered so
-all-answered : (rs : List Row) → All Reading rs → All Answered rs
+all-answered : (rs : List Row) → All RowHolds rs → All Answered rs
 all-answered [] xs = tt
 all-answered (r ∷ rs) xs = ((λ old new answer long solved. answered r (xs .0) old new answer long solved .0), all-answered rs (xs .1))
 

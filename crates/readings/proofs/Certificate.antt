@@ -13,7 +13,7 @@ use Rattle.automaton.specs.Condition.{maskOf}
 use Rattle.automaton.specs.Discovery.{stateCount}
 use Rattle.game.specs.Arena.{isFair}
 use Rattle.readings.specs.Lists.{transitionsOf, flagsOf}
-use Rattle.readings.specs.Reading.{Row, lettersOf, arenaFor}
+use Rattle.readings.specs.Row.{Row, lettersOf, arenaFor}
 use Rattle.readings.proofs.Tree.{Tree, formulaOf, readsBy}
 use Rattle.readings.proofs.Test.{winsOf}
 

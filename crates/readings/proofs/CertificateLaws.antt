@@ -1,4 +1,4 @@
--- From the test to the reading: a row with a certificate that passes (proofs/Certificate.antt) is a reading (specs/Reading.antt).
+-- From the test to the reading: a row with a certificate that passes (proofs/Certificate.antt) is a reading (specs/Row.antt).
 -- Assumes nothing.
 use Prim.Native.Nat.{ℕ, _+_, _^_, _≤_, _<_}
 use mathlib.Core.Path.{_≡_, refl, sym, _∙_, subst}
@@ -24,7 +24,7 @@ use Rattle.automaton.specs.Discovery.{stateCount}
 use Rattle.automaton.proofs.ConditionLaws.{mask-judges}
 use Rattle.game.specs.Arena.{isFair}
 use Rattle.readings.specs.Lists.{transitionsOf, flagsOf}
-use Rattle.readings.specs.Reading.{Row, lettersOf, arenaFor, VerdictOn, Reading, All}
+use Rattle.readings.specs.Row.{Row, lettersOf, arenaFor, VerdictOn, RowHolds, All}
 use Rattle.readings.proofs.Tree.{formulaOf, readsBy}
 use Rattle.readings.proofs.TreeLaws.{reads}
 use Rattle.readings.proofs.ListLaws.{computed}
@@ -127,7 +127,7 @@ module _ (r : Row) (c : Certificate) (e : passes r c ≡ true) where
     start-won = verdict i (r .outputs) φ (r .count) m t f B (r .can) (isFair (r .mode)) (c .table) (all-won .1 0 (all-won .0))
 
   -- a row whose certificate passes is a reading
-  pub reading : Reading r
+  pub reading : RowHolds r
   reading =
       record {
         small = alphabet;
@@ -149,7 +149,7 @@ module _ (r : Row) (c : Certificate) (e : passes r c ≡ true) where
   reading-formulas = (refl, refl)
 
 -- so is every row of a list
-pub all-readings : (rs : List Row) (cs : List Certificate) → allPass rs cs ≡ true → All Reading rs
+pub all-readings : (rs : List Row) (cs : List Certificate) → allPass rs cs ≡ true → All RowHolds rs
 unfolding allPass
 all-readings [] cs e = tt
 all-readings (r ∷ rs) [] e = absurd (mathlib.Core.Bool.false≢true e)

@@ -13,9 +13,9 @@ use lib.Seq.{take-all}
 use borrow.Author.Tests.{eqb-true, eqb-false}
 use Rattle.reader.proofs.BoolLaws.{on}
 use Rattle.reader.specs.Formula.{Formula, size, operators}
-use Rattle.reader.specs.Marks.{kindIn, allowedBy, isTemporal, amongOf, kindOf, operandOf, unaryOf, binaryOf}
-use Rattle.reader.specs.Grammar.{marks}
-use Rattle.automaton.specs.Bits.{bit, word, gather}
+use Rattle.reader.specs.Marks.{kindIn, allowedBy, isTemporalMark, amongOf, markKind, operandOf, unaryOf, binaryOf}
+use Rattle.reader.specs.Grammar.{withoutBlanks}
+use Rattle.automaton.specs.Bits.{bit, ofBits, gather}
 use Rattle.automaton.specs.Condition.{maskOf}
 use Rattle.automaton.specs.Valuation.{value, coords, ends, present, endVector, vectors}
 use Rattle.automaton.specs.State.{start, after, accepts}
@@ -33,7 +33,7 @@ use Rattle.listing.specs.Listing.{stateLines, verdictLines, listing}
 use Rattle.listing.specs.Promise.{lent, Answers, Prints, Listed, Responded}
 use Rattle.listing.proofs.RequestLaws.{one-request}
 use Rattle.readings.specs.Lists.{listOf, transitionsOf, flagsOf}
-use Rattle.readings.specs.Reading.{Row, rowOf, arenaFor}
+use Rattle.readings.specs.Row.{Row, rowOf, arenaFor}
 use Rattle.readings.specs.Example.{exampleInput, exampleListing}
 use Rattle.readings.proofs.Tree.{single, prefixed, flat, formulaOf, fits, sameBytes, readsBy}
 use Rattle.readings.proofs.Test.{below, stepOf, outputOf, inputOf, bytesOf, stateOf, winsOf}
@@ -55,8 +55,8 @@ never = certificate (prefixed 70 (single 97)) (single 49) (0 ∷ 0 ∷ []) (1 �
 -- the row's certificate passes
 passed : passes example never ≡ true
 unfolding passes passesWith alphabetPasses textsPass sizesPass countPasses winnerPasses readsBy sameBytes fits formulaOf flat winsOf stateOf bytesOf inputOf outputOf stepOf below next goal holds
-    maskOf flagsOf transitionsOf listOf stateCount states discovered look target extend position accepts after start vectors endVector present ends coords value gather word bit
-    marks binaryOf unaryOf operandOf kindOf amongOf isTemporal allowedBy kindIn operators size
+    maskOf flagsOf transitionsOf listOf stateCount states discovered look target extend position accepts after start vectors endVector present ends coords value gather ofBits bit
+    withoutBlanks binaryOf unaryOf operandOf markKind amongOf isTemporalMark allowedBy kindIn operators size
 passed = refl
 
 abbrev φ : Formula
@@ -67,12 +67,12 @@ abbrev κ : Formula
 
 -- the automaton has three states: input 1 leads to state 2, which is a goal and is not left, and input 0 to state 1
 transitions-are : transitionsOf φ 2 ≡ 1 ∷ 2 ∷ 1 ∷ 2 ∷ 2 ∷ 2 ∷ []
-unfolding formulaOf transitionsOf listOf stateCount states discovered look target extend position after start vectors present ends coords value gather word bit
+unfolding formulaOf transitionsOf listOf stateCount states discovered look target extend position after start vectors present ends coords value gather ofBits bit
     unaryOf operandOf operators
 transitions-are = refl
 
 flags-are : flagsOf φ 2 ≡ 0 ∷ 0 ∷ 1 ∷ []
-unfolding formulaOf flagsOf listOf stateCount states discovered look target extend position accepts after start vectors endVector present ends coords value gather word bit
+unfolding formulaOf flagsOf listOf stateCount states discovered look target extend position accepts after start vectors endVector present ends coords value gather ofBits bit
     unaryOf operandOf operators
 flags-are = refl
 

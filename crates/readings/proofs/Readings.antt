@@ -4,16 +4,16 @@ use mathlib.Core.Path.{_≡_, refl}
 use mathlib.Core.List.{List, [], _∷_}
 use lib.ListN.{length}
 use Rattle.reader.specs.Formula.{size, operators}
-use Rattle.reader.specs.Marks.{kindIn, allowedBy, isTemporal, amongOf, kindOf, operandOf, unaryOf, binaryOf}
-use Rattle.reader.specs.Grammar.{marks}
-use Rattle.automaton.specs.Bits.{bit, word, gather}
+use Rattle.reader.specs.Marks.{kindIn, allowedBy, isTemporalMark, amongOf, markKind, operandOf, unaryOf, binaryOf}
+use Rattle.reader.specs.Grammar.{withoutBlanks}
+use Rattle.automaton.specs.Bits.{bit, ofBits, gather}
 use Rattle.automaton.specs.Condition.{maskOf}
 use Rattle.automaton.specs.Valuation.{value, coords, ends, present, endVector, vectors}
 use Rattle.automaton.specs.State.{start, after, accepts}
 use Rattle.automaton.specs.Discovery.{position, extend, target, look, discovered, states, stateCount}
 use Rattle.game.specs.Arena.{next, goal, holds}
 use Rattle.readings.specs.Lists.{listOf, transitionsOf, flagsOf}
-use Rattle.readings.specs.Reading.{Reading, All}
+use Rattle.readings.specs.Row.{RowHolds, All}
 use Rattle.readings.specs.Rows.{rows}
 use Rattle.readings.proofs.Tree.{Tree, single, prefixed, grouped, joined, flat, formulaOf, fits, sameBytes, readsBy}
 use Rattle.readings.proofs.Test.{below, stepOf, outputOf, inputOf, bytesOf, stateOf, winsOf}
@@ -64,10 +64,10 @@ certificates =
     ∷ certificate (joined 0 p 85 a) a (1 ∷ 0 ∷ 255 ∷ 255 ∷ 255 ∷ 255 ∷ 1 ∷ 0 ∷ []) (1 ∷ 0 ∷ 0 ∷ 1 ∷ [])
     ∷ []
 
-pub readings : All Reading rows
+pub readings : All RowHolds rows
 unfolding rows certificates allPass passes passesWith alphabetPasses textsPass sizesPass countPasses winnerPasses readsBy sameBytes fits formulaOf flat winsOf stateOf bytesOf inputOf outputOf stepOf below next goal holds
-    maskOf flagsOf transitionsOf listOf stateCount states discovered look target extend position accepts after start vectors endVector present ends coords value gather word bit
-    marks binaryOf unaryOf operandOf kindOf amongOf isTemporal allowedBy kindIn operators size
+    maskOf flagsOf transitionsOf listOf stateCount states discovered look target extend position accepts after start vectors endVector present ends coords value gather ofBits bit
+    withoutBlanks binaryOf unaryOf operandOf markKind amongOf isTemporalMark allowedBy kindIn operators size
 readings = all-readings rows certificates refl
 
 -- as many as the specification marks

@@ -25,7 +25,7 @@ use Rattle.game.specs.Strategy.{systemByte, environmentByte, SystemWins, Enviro
 use Rattle.game.proofs.IndexLaws.{letter-below}
 use Rattle.game.proofs.PlayLaws.{system-wins, environment-wins}
 use Rattle.game.proofs.RuleLaws.{can-keep, cannot-keep}
-use Rattle.readings.specs.Reading.{VerdictOn}
+use Rattle.readings.specs.Row.{VerdictOn}
 use Rattle.readings.proofs.Test.{below, fallsOf, stepOf, outputOf, inputOf, bytesOf, stateOf, winsOf}
 use Rattle.readings.proofs.ListLaws.{same-transition, same-flag}
 

@@ -8,7 +8,7 @@ use Rattle.reader.specs.declared.marks.Kind.{Kind}
 use Rattle.reader.specs.declared.marks.Kind.the-variants.{Operand, Prefix, Infix, Open, Close, Other}
 use Rattle.reader.specs.Formula.{Formula, unary, binary}
 use Rattle.reader.specs.Marks.{operandOf, unaryOf, binaryOf}
-use Rattle.reader.specs.Grammar.{marks}
+use Rattle.reader.specs.Grammar.{withoutBlanks}
 
 -- an operand, a prefix mark before a tree, a tree in parentheses, and an infix mark between two trees, with the level below its own
 pub data Tree : Type 0 where
@@ -60,5 +60,5 @@ sameBytes (b ∷ u) (c ∷ v) = eqb b c && sameBytes u v
 
 -- the tree reads the text
 unfoldable pub readsBy : (ℕ → Kind) → List ℕ → Tree → Bool
-unfolding marks flat fits sameBytes
-readsBy kind text t = sameBytes (flat t) (marks text) && fits kind 4 t
+unfolding withoutBlanks flat fits sameBytes
+readsBy kind text t = sameBytes (flat t) (withoutBlanks text) && fits kind 4 t

@@ -12,7 +12,7 @@ use borrow.Author.Tests.{eqb-true, leb-true}
 use Rattle.reader.specs.declared.marks.Kind.{Kind}
 use Rattle.reader.specs.declared.marks.Kind.the-variants.{Operand, Prefix, Infix, Open, Close, Other}
 use Rattle.reader.specs.Formula.{Formula}
-use Rattle.reader.specs.Grammar.{marks, Derives, Reads, operand, prefix, parens, lower, infixed}
+use Rattle.reader.specs.Grammar.{withoutBlanks, Derives, Reads, operand, prefix, parens, lower, infixed}
 use Rattle.reader.proofs.BoolLaws.{and-true}
 use Rattle.readings.proofs.Tree.{Tree, single, prefixed, grouped, joined, flat, formulaOf, kindCode, sameKind, fits, sameBytes, readsBy}
 
@@ -69,5 +69,5 @@ module _ (i : ℕ) (kind : ℕ → Kind) where
   pub reads : (text : List ℕ) (t : Tree) → readsBy kind text t ≡ true → Reads i kind text (formulaOf i t)
   unfolding readsBy
   reads text t e =
-      let w = and-true (sameBytes (flat t) (marks text)) (fits kind 4 t) e in
-      subst (λ (s : List ℕ). Derives i kind 4 s (formulaOf i t)) (same-bytes (flat t) (marks text) (w .0)) (derives 4 t (w .1))
+      let w = and-true (sameBytes (flat t) (withoutBlanks text)) (fits kind 4 t) e in
+      subst (λ (s : List ℕ). Derives i kind 4 s (formulaOf i t)) (same-bytes (flat t) (withoutBlanks text) (w .0)) (derives 4 t (w .1))

@@ -1,4 +1,4 @@
 pub mod Lists
-pub mod Reading
+pub mod Row
 pub mod Rows
 pub mod Example

@@ -4,7 +4,7 @@
 use mathlib.Core.Bool.{true, false}
 use mathlib.Core.List.{List, [], _∷_}
 use Rattle.game.specs.declared.answer.Mode.the-variants.{Fair, Stable}
-use Rattle.readings.specs.Reading.{Row, row}
+use Rattle.readings.specs.Row.{Row, row}
 
 unfoldable pub rows : List Row
 rows =

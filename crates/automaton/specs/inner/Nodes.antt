@@ -10,12 +10,12 @@ use lib.Dec.{eqb, leb}
 use lib.ListN.{getD}
 use Rattle.reader.specs.Formula.{Unary, Binary, Formula, constant, name, unary, binary, size, withUnary, withBinary, operators}
 use Rattle.reader.specs.inner.Nodes.{constantCode, nameCode, unaryCode, binaryCode, wordOf}
-use Rattle.automaton.specs.Bits.{bit, one, word}
+use Rattle.automaton.specs.Bits.{bit, one, ofBits}
 use Rattle.automaton.specs.Valuation.{value, present}
 
 -- ---- the fields of a node's word
-abbrev pub kindOf : ℕ → ℕ
-kindOf w = w % 256
+abbrev pub nodeKind : ℕ → ℕ
+nodeKind w = w % 256
 
 abbrev pub leftOf : ℕ → ℕ
 leftOf w = w / 256 % 256
@@ -38,26 +38,26 @@ allBits = 0xFFFF_FFFF_FFFF_FFFF
 
 -- a node's value for each of the 64 valuations, from those of its operands
 unfoldable pub nodeWord : ℕ → ℕ → ℕ → ℕ → ℕ → ℕ
-unfolding word bit
+unfolding ofBits bit
 nodeWord kind argument a left right =
     cond (eqb kind 0) 0
     (cond (eqb kind 1) allBits
-    (cond (eqb kind 2) (word (λ v. bit a argument) 64)
+    (cond (eqb kind 2) (ofBits (λ v. bit a argument) 64)
     (cond (eqb kind 3) (bitXor right allBits)
-    (cond (eqb kind 4) (word (λ v. bit v argument) 64)
-    (cond (eqb kind 5) (word (λ v. bit v argument) 64)
-    (cond (eqb kind 6) (bitOr right (word (λ v. bit v argument) 64))
-    (cond (eqb kind 7) (bitAnd right (word (λ v. bit v argument) 64))
-    (cond (eqb kind 8) (bitOr right (bitAnd left (word (λ v. bit v argument) 64)))
-    (cond (eqb kind 9) (bitAnd right (bitOr left (word (λ v. bit v argument) 64)))
+    (cond (eqb kind 4) (ofBits (λ v. bit v argument) 64)
+    (cond (eqb kind 5) (ofBits (λ v. bit v argument) 64)
+    (cond (eqb kind 6) (bitOr right (ofBits (λ v. bit v argument) 64))
+    (cond (eqb kind 7) (bitAnd right (ofBits (λ v. bit v argument) 64))
+    (cond (eqb kind 8) (bitOr right (bitAnd left (ofBits (λ v. bit v argument) 64)))
+    (cond (eqb kind 9) (bitAnd right (bitOr left (ofBits (λ v. bit v argument) 64)))
     (cond (eqb kind 10) (bitAnd left right)
     (cond (eqb kind 11) (bitOr left right)
     (bitOr (bitXor left allBits) right))))))))))))
 
 -- for each node below m that stands for a formula, the words hold the formula's value for each of the 64 valuations
 unfoldable pub Evaluated : List ℕ → ℕ → List ℕ → ℕ → Type 0
-unfolding word value
-Evaluated nodes a words m = (i : ℕ) → i < m → (k : ℕ) (φ : Formula) → Node nodes i k φ → getD words i 0 ≡ word (λ v. value φ k a v) 64
+unfolding ofBits value
+Evaluated nodes a words m = (i : ℕ) → i < m → (k : ℕ) (φ : Formula) → Node nodes i k φ → getD words i 0 ≡ ofBits (λ v. value φ k a v) 64
 
 -- ---- coordinates
 
@@ -66,19 +66,19 @@ abbrev pub temporalKind : ℕ → Bool
 temporalKind kind = leb 4 kind && leb kind 9
 
 -- a node is that of a temporal operator
-unfoldable pub isTemporal : ℕ → Bool
-isTemporal w = temporalKind (kindOf w)
+unfoldable pub isTemporalNode : ℕ → Bool
+isTemporalNode w = temporalKind (nodeKind w)
 
 -- the number of temporal operators among the first m nodes
 unfoldable pub operatorsIn : List ℕ → ℕ → ℕ
-unfolding isTemporal
+unfolding isTemporalNode
 operatorsIn nodes zero = 0
-operatorsIn nodes (suc m) = one (isTemporal (getD nodes m 0)) + operatorsIn nodes m
+operatorsIn nodes (suc m) = one (isTemporalNode (getD nodes m 0)) + operatorsIn nodes m
 
 -- the coordinate of a temporal operator's node, and 0, which no operator has, of any other
 unfoldable pub coordinateOf : ℕ → ℕ
-unfolding isTemporal
-coordinateOf w = cond (isTemporal w) (argumentOf w % 8) 0
+unfolding isTemporalNode
+coordinateOf w = cond (isTemporalNode w) (argumentOf w % 8) 0
 
 -- places[j] is the last node below m that has the coordinate j, if one has
 unfoldable pub Located : List ℕ → ℕ → List ℕ → Type 0
@@ -94,7 +94,7 @@ ownerOf kind o = cond (eqb kind 4 || eqb kind 5) (o - 1) o
 unfoldable pub owner : List ℕ → List ℕ → ℕ → ℕ → ℕ
 unfolding ownerOf
 owner nodes places m zero = m - 1
-owner nodes places m (suc j) = ownerOf (kindOf (getD nodes (getD places (suc j) 0) 0)) (getD places (suc j) 0)
+owner nodes places m (suc j) = ownerOf (nodeKind (getD nodes (getD places (suc j) 0) 0)) (getD places (suc j) 0)
 
 -- an operator's bit of the end valuation: 1 for N, G and R
 unfoldable pub endOf : ℕ → Bool
@@ -104,9 +104,9 @@ endOf kind = eqb kind 5 || (eqb kind 7 || eqb kind 9)
 unfoldable pub endBit : List ℕ → List ℕ → ℕ → Bool
 unfolding endOf
 endBit nodes places zero = false
-endBit nodes places (suc j) = endOf (kindOf (getD nodes (getD places (suc j) 0) 0))
+endBit nodes places (suc j) = endOf (nodeKind (getD nodes (getD places (suc j) 0) 0))
 
 -- the words of the coordinates make from each of the 64 valuations the one that letter a makes from it: its coordinate j is bit v of word j
 unfoldable pub Makes : Formula → ℕ → List ℕ → Type 0
-unfolding word bit present
-Makes φ a words = (v : ℕ) → v < 64 → word (λ j. bit (getD words j 0) v) (suc (operators φ)) ≡ present φ a v
+unfolding ofBits bit present
+Makes φ a words = (v : ℕ) → v < 64 → ofBits (λ j. bit (getD words j 0) v) (suc (operators φ)) ≡ present φ a v

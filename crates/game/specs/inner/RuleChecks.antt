@@ -17,7 +17,7 @@ use Rattle.automaton.specs.Condition.{maskOf, Judges}
 use Rattle.game.specs.Rule.{Buffers, shortBuffers, ruleRefusal}
 
 -- every test before 9 is passed, and the mask is the condition's
-pub record Passed (i o : ℕ) (rule condition : List ℕ) (old : Buffers) (reading condition-reading : Reading) (mask : ℕ) : Type 0 where
+pub record TestsPassed (i o : ℕ) (rule condition : List ℕ) (old : Buffers) (reading condition-reading : Reading) (mask : ℕ) : Type 0 where
   pub alphabet : badAlphabet i o ≡ false
   pub rule-fits : tooLong rule ≡ false
   pub condition-fits : tooLong condition ≡ false
@@ -39,4 +39,4 @@ pub record RuleChecked (i o : ℕ) (rule condition : List ℕ) (old : Buffers) (
   pub condition-read : ReadingOf i (conditionKind i) condition condition-reading
   pub first : (refusal ≡ Nothing → ⊥) → (n : ℕ) → refusal ≡ ruleRefusal i o rule condition old reading condition-reading n
   pub not-count : refusal ≡ StateCount → ⊥
-  pub passed : refusal ≡ Nothing → Passed i o rule condition old reading condition-reading mask
+  pub passed : refusal ≡ Nothing → TestsPassed i o rule condition old reading condition-reading mask

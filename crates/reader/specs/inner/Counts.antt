@@ -5,11 +5,11 @@ use mathlib.Core.Bool.{Bool, cond}
 use mathlib.Core.List.{List, [], _∷_}
 use Rattle.reader.specs.declared.marks.Kind.{Kind}
 use Rattle.reader.specs.declared.marks.Kind.the-variants.{Operand, Prefix, Infix, Open, Close, Other}
-use Rattle.reader.specs.Marks.{kindOf, isTemporal}
+use Rattle.reader.specs.Marks.{markKind, isTemporalMark}
 
 -- 1 for a temporal mark, else 0
 unfoldable pub tick : ℕ → ℕ
-tick b = cond (isTemporal b) 1 0
+tick b = cond (isTemporalMark b) 1 0
 
 -- what a byte adds to the count of the temporal operators (t true) or of the nodes (t false), by its kind; x is 1 for a temporal mark
 abbrev pub weightOf : Bool → ℕ → Kind → ℕ
@@ -23,4 +23,4 @@ weightOf t x Other = 0
 -- the count of a text
 unfoldable pub countOf : Bool → List ℕ → ℕ
 countOf t [] = 0
-countOf t (b ∷ s) = weightOf t (tick b) (kindOf b) + countOf t s
+countOf t (b ∷ s) = weightOf t (tick b) (markKind b) + countOf t s

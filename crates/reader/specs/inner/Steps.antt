@@ -10,8 +10,8 @@ use Rattle.reader.specs.declared.marks.Kind.{Kind}
 use Rattle.reader.specs.declared.marks.Kind.the-variants.{Operand, Prefix, Infix, Open, Close, Other}
 use Rattle.reader.specs.declared.levels.Pos.{Pos}
 use Rattle.reader.specs.Formula.{Formula, size, operators}
-use Rattle.reader.specs.Marks.{kindOf}
-use Rattle.reader.specs.Grammar.{marks, Derives}
+use Rattle.reader.specs.Marks.{markKind}
+use Rattle.reader.specs.Grammar.{withoutBlanks, Derives}
 use Rattle.reader.specs.inner.Nodes.{code}
 use Rattle.reader.specs.inner.Counts.{tick}
 
@@ -24,7 +24,7 @@ pub record PastBlanks (text : List ℕ) (at r : ℕ) : Type 0 where
   pub from : at ≤ r
   pub within : r ≤ length text
   pub no-blank : NotBlank text r
-  pub same : marks (drop r text) ≡ marks (drop at text)
+  pub same : withoutBlanks (drop r text) ≡ withoutBlanks (drop at text)
 
 -- the level of an infix mark, else 0
 abbrev pub levelOf : Kind → ℕ
@@ -54,11 +54,11 @@ isPrefix Other = false
 -- the level of the first of the marks
 abbrev pub firstLevel : List ℕ → ℕ
 firstLevel [] = 0
-firstLevel (b ∷ s) = levelOf (kindOf b)
+firstLevel (b ∷ s) = levelOf (markKind b)
 
 -- r is the level of the mark at the place
 pub record LevelAt (text : List ℕ) (at r : ℕ) : Type 0 where
-  pub first : r ≡ firstLevel (marks (drop at text))
+  pub first : r ≡ firstLevel (withoutBlanks (drop at text))
   pub inside : 0 < r → at < length text
 
 -- r is past the mark at p
@@ -66,14 +66,14 @@ pub record PastMark (text : List ℕ) (p r : Pos) : Type 0 where
   pub past : p .at < r .at
   pub within : r .at ≤ length text
   pub no-blank : NotBlank text (r .at)
-  pub mark : marks (drop (p .at) text) ≡ getD text (p .at) 0 ∷ marks (drop (r .at) text)
+  pub mark : withoutBlanks (drop (p .at) text) ≡ getD text (p .at) 0 ∷ withoutBlanks (drop (r .at) text)
   pub nodes : r .nodes ≡ p .nodes
   pub coordinate : r .coordinate ≡ p .coordinate + tick (getD text (p .at) 0)
 
 -- the marks can follow a formula of the level: none of them, or one that does not extend it
 abbrev pub CanFollow : ℕ → List ℕ → Type 0
 CanFollow l [] = Unit {0}
-CanFollow l (b ∷ s) = (m : ℕ) → kindOf b ≡ Infix m → l < m
+CanFollow l (b ∷ s) = (m : ℕ) → markKind b ≡ Infix m → l < m
 
 -- a formula of the level is at p, and the buffer has room for its nodes
 pub record Readable (i l : ℕ) (text : List ℕ) (p : Pos) (room : ℕ) : Type 0 where
@@ -81,8 +81,8 @@ pub record Readable (i l : ℕ) (text : List ℕ) (p : Pos) (room : ℕ) : Type 
   pub formula : Formula
   pub taken : List ℕ
   pub rest : List ℕ
-  pub here : marks (drop (p .at) text) ≡ taken ++ rest
-  pub derived : Derives i kindOf l taken formula
+  pub here : withoutBlanks (drop (p .at) text) ≡ taken ++ rest
+  pub derived : Derives i markKind l taken formula
   pub follows : CanFollow l rest
   pub fits : p .nodes + size formula ≤ room
   pub few : p .coordinate + operators formula ≤ 64
@@ -90,7 +90,7 @@ pub record Readable (i l : ℕ) (text : List ℕ) (p : Pos) (room : ℕ) : Type 
 
 -- the formula at p has been read up to r, where the marks `rest` are left, and its nodes are written
 pub record Parsed (text : List ℕ) (p : Pos) (out : List ℕ) (r : Pos) (out′ rest : List ℕ) (φ : Formula) : Type 0 where
-  pub left : marks (drop (r .at) text) ≡ rest
+  pub left : withoutBlanks (drop (r .at) text) ≡ rest
   pub nodes : r .nodes ≡ p .nodes + size φ
   pub coordinate : r .coordinate ≡ p .coordinate + operators φ
   pub written : out′ ≡ sets out (p .nodes) (code (p .nodes) (p .coordinate) φ)
@@ -100,4 +100,4 @@ pub record Consumed (i l : ℕ) (text : List ℕ) (p : Pos) (out : List ℕ) (r 
   pub past : p .at < r .at
   pub within : r .at ≤ length text
   pub no-blank : NotBlank text (r .at)
-  pub reads : (w rest : List ℕ) (φ : Formula) → marks (drop (p .at) text) ≡ w ++ rest → Derives i kindOf l w φ → CanFollow l rest → Parsed text p out r out′ rest φ
+  pub reads : (w rest : List ℕ) (φ : Formula) → withoutBlanks (drop (p .at) text) ≡ w ++ rest → Derives i markKind l w φ → CanFollow l rest → Parsed text p out r out′ rest φ

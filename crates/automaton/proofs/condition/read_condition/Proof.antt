@@ -12,7 +12,7 @@ use Rattle.reader.specs.Limits.{tooLong}
 use Rattle.reader.proofs.RefusalLaws.{not-good}
 use Rattle.reader.proofs.StaticLaws.{static}
 use Rattle.automaton.specs.Alphabet.{badAlphabet}
-use Rattle.automaton.specs.Bits.{word}
+use Rattle.automaton.specs.Bits.{ofBits}
 use Rattle.automaton.specs.Valuation.{value}
 use Rattle.automaton.specs.Condition.{maskOf}
 use Rattle.automaton.proofs.AlphabetLaws.{inputs-fit, power-is}
@@ -107,7 +107,7 @@ returns-4 c =
     let e = k .before .before .before .before .before in
     let v = represented k in
     by-mask (z .i) (now (z .text)) (fits e) (short e) (count k) (v .reading) (v .formula) (v .good) (static 0 (v .good .reads)) (c .condition-mask .result)
-    (c .condition-mask .ensures (v .formula) (v .represents) ∙ ap (word (λ x. value (v .formula) 1 x 0)) (inputs-are p))
+    (c .condition-mask .ensures (v .formula) (v .represents) ∙ ap (ofBits (λ x. value (v .formula) 1 x 0)) (inputs-are p))
 
 pub read-condition-spec : {M : Type 1} → statement M
 read-condition-spec =

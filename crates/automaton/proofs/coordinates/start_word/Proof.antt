@@ -3,8 +3,8 @@ use Prim.Native.Nat.{ℕ, _%_, _<_}
 use native.Mathlib.Omega.{arith}
 use lib.Pow.{pow-pos}
 use mathlib.Core.Path.{_≡_, sym, ap, ap₂, _∙_}
-use Rattle.automaton.specs.Bits.{bit, word}
-use Rattle.automaton.proofs.BitLaws.{word-mod, bit-shifted}
+use Rattle.automaton.specs.Bits.{bit, ofBits}
+use Rattle.automaton.proofs.BitLaws.{ofBits-mod, bit-shifted}
 use borrow.Author.Needs.{needs}
 use Rattle.automaton.proofs.coordinates.start_word.Statement.{statement}
 use Rattle.automaton.proofs.coordinates.start_word.Tie as tie
@@ -22,12 +22,12 @@ returns : tie.Need-returns
 returns c =
     let n = c .before .before .args .vectors in
     let h : n < 64 = c .if1 .taken in
-    ap₂ (λ (x y : ℕ). x % y) (c .before .coordinate .ensures) (bit-shifted n h) ∙ word-mod (λ v. bit v 0) 64 n (omega arith)
+    ap₂ (λ (x y : ℕ). x % y) (c .before .coordinate .ensures) (bit-shifted n h) ∙ ofBits-mod (λ v. bit v 0) 64 n (omega arith)
 
 returns-2 : tie.Need-returns-2
 returns-2 c =
     let e : 64 ≡ c .before .before .args .vectors = omega arith in
-    c .before .coordinate .ensures ∙ ap (word (λ v. bit v 0)) e
+    c .before .coordinate .ensures ∙ ap (ofBits (λ v. bit v 0)) e
 
 pub start-word-spec : {M : Type 1} → statement M
 start-word-spec = tie.close (tie.spec coordinate-requires shl-result rem-result returns returns-2)

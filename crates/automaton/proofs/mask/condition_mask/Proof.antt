@@ -5,23 +5,23 @@ use Prim.Native.Nat.{_-_, _^_, _≤_, _<_}
 use native.Mathlib.Nat.{mod-eq-of-lt, lt-of-lt-of-le}
 use lib.Pow.{pow-mono}
 use Rattle.reader.specs.Formula.{Formula}
-use Rattle.automaton.specs.Bits.{word}
+use Rattle.automaton.specs.Bits.{ofBits}
 use Rattle.automaton.specs.Valuation.{value}
 use Rattle.automaton.specs.inner.Representation.{Represents}
-use Rattle.automaton.proofs.BitLaws.{word-step}
+use Rattle.automaton.proofs.BitLaws.{ofBits-step}
 use Rattle.automaton.proofs.LoopLaws.{set-lt}
 use borrow.Author.Needs.{needs}
 use Rattle.automaton.proofs.mask.condition_mask.Statement.{statement}
 use Rattle.automaton.proofs.mask.condition_mask.Tie as tie
 
 abbrev Inv-loop : tie.InvT-loop
-Inv-loop nodes count inputs mask₀ x₀ mask x = (x ≤ inputs) × (mask < 2 ^ x) × ((κ : Formula) → Represents nodes count κ → mask ≡ word (λ y. value κ 1 y 0) x)
+Inv-loop nodes count inputs mask₀ x₀ mask x = (x ≤ inputs) × (mask < 2 ^ x) × ((κ : Formula) → Represents nodes count κ → mask ≡ ofBits (λ y. value κ 1 y 0) x)
 
 abbrev μ-loop : tie.MeasureT-loop
 μ-loop nodes count inputs mask₀ x₀ mask x = inputs - x
 
 pub condition-mask-spec : {M : Type 1} → statement M
-unfolding word
+unfolding ofBits
 condition-mask-spec =
     tie.close
     (tie.spec
@@ -39,7 +39,7 @@ condition-mask-spec =
     let b = c .before .root-value .ensures in (
       omega arith,
       rw (c .set-bit .ensures) (set-lt (c .before .root-value .result) (at .loop .mask) x (b .1) (inv .1)),
-      λ κ rep. c .set-bit .ensures ∙ word-step (λ y. value κ 1 y 0) x (at .loop .mask) (c .before .root-value .result) (inv .2 κ rep) (b .0 κ rep),
+      λ κ rep. c .set-bit .ensures ∙ ofBits-step (λ y. value κ 1 y 0) x (at .loop .mask) (c .before .root-value .result) (inv .2 κ rep) (b .0 κ rep),
     ))
     (λ c. search needs)
     (λ c.
@@ -47,4 +47,4 @@ condition-mask-spec =
     let a = at .before .args in
     let x=inputs : at .loop .x ≡ a .inputs = omega arith in
     let small = lt-of-lt-of-le (at .loop .inv .1) (pow-mono {i = at .loop .x} {j = 16} (omega arith)) in
-    λ κ rep. mod-eq-of-lt small ∙ at .loop .inv .2 κ rep ∙ ap (word (λ y. value κ 1 y 0)) x=inputs))
+    λ κ rep. mod-eq-of-lt small ∙ at .loop .inv .2 κ rep ∙ ap (ofBits (λ y. value κ 1 y 0)) x=inputs))

@@ -5,7 +5,7 @@ use mathlib.Core.Path.{_≡_, refl, ap, _∙_}
 use Prim.Native.Nat.{_+_, _-_, _≤_}
 use lib.ListN.{getD}
 use Rattle.automaton.specs.Bits.{one}
-use Rattle.automaton.specs.inner.Nodes.{isTemporal, operatorsIn}
+use Rattle.automaton.specs.inner.Nodes.{isTemporalNode, operatorsIn}
 use Rattle.automaton.proofs.OperatorLaws.{all-counted}
 use borrow.Author.Needs.{needs}
 use Rattle.automaton.proofs.operators.operator_count.Statement.{statement}
@@ -35,7 +35,7 @@ operator-count-spec =
     let at = c .before .before .before in
     let a = at .before .args in
     let i = at .loop .i in
-    let e : operatorsIn (a .nodes .now) (i + 1) ≡ one (isTemporal (getD (a .nodes .now) i 0)) + operatorsIn (a .nodes .now) i = rw add-one in
+    let e : operatorsIn (a .nodes .now) (i + 1) ≡ one (isTemporalNode (getD (a .nodes .now) i 0)) + operatorsIn (a .nodes .now) i = rw add-one in
     (omega arith, omega (arith, c .operator-bit .ensures .0, at .loop .inv .1), omega arith))
     (λ c.
     let i=count : c .before .loop .i ≡ c .before .before .args .count = omega arith in

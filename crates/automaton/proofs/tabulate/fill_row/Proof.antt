@@ -3,7 +3,7 @@ use native.Mathlib.Omega.{arith}
 use mathlib.Core.Path.{_≡_, refl}
 use Prim.Native.Nat.{ℕ, _+_, _-_, _*_, _≤_, _<_}
 use lib.ListN.{getD, length, length-set}
-use Rattle.automaton.specs.Bits.{bit, word}
+use Rattle.automaton.specs.Bits.{bit, ofBits}
 use Rattle.automaton.proofs.LoopLaws.{row-more, front-more}
 use borrow.Author.Needs.{needs}
 use Rattle.automaton.proofs.tabulate.fill_row.Statement.{statement}
@@ -11,7 +11,7 @@ use Rattle.automaton.proofs.tabulate.fill_row.Tie as tie
 
 abbrev Inv-loop : tie.InvT-loop
 Inv-loop words width entries first table₀ k₀ table k =
-    (k ≤ entries) × (length table ≡ length table₀) × ((i : ℕ) → i < k → getD table (first + i) 0 ≡ word (λ j. bit (getD words j 0) (2 * i)) width) × ((i : ℕ) → i < first → getD table i 0 ≡ getD table₀ i 0)
+    (k ≤ entries) × (length table ≡ length table₀) × ((i : ℕ) → i < k → getD table (first + i) 0 ≡ ofBits (λ j. bit (getD words j 0) (2 * i)) width) × ((i : ℕ) → i < first → getD table i 0 ≡ getD table₀ i 0)
 
 abbrev μ-loop : tie.MeasureT-loop
 μ-loop words width entries first table₀ k₀ table k = entries - k
@@ -36,7 +36,7 @@ fill-row-spec =
     let l = at .loop .table in
     let k = at .loop .k in
     let inv = at .loop .inv in
-    let f : ℕ → ℕ = λ i. word (λ j. bit (getD (a .words .now) j 0) (2 * i)) (a .width) in (
+    let f : ℕ → ℕ = λ i. ofBits (λ j. bit (getD (a .words .now) j 0) (2 * i)) (a .width) in (
       omega arith,
       simp length-set (inv .1),
       row-more f l (a .first) k _ (omega arith) (c .vector-from .ensures .0) (inv .2),

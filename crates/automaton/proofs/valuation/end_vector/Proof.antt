@@ -1,8 +1,8 @@
 -- `automaton::valuation::end_vector` meets its contract. Assumes nothing.
 use mathlib.Core.Path.{_∙_, ap}
-use Rattle.automaton.specs.Bits.{word}
+use Rattle.automaton.specs.Bits.{ofBits}
 use Rattle.automaton.specs.inner.Nodes.{endBit}
-use Rattle.automaton.proofs.CoordinateLaws.{ended-vector, word-small}
+use Rattle.automaton.proofs.CoordinateLaws.{ended-vector, ofBits-small}
 use borrow.Author.Needs.{needs}
 use Rattle.automaton.proofs.valuation.end_vector.Statement.{statement}
 use Rattle.automaton.proofs.valuation.end_vector.Tie as tie
@@ -14,6 +14,6 @@ end-vector-spec =
     let start = c .before .before .before .before in
     let a = start .args in
     let f = endBit (a .nodes .now) (o .result) in (
-      λ φ rep w. c .end-word .ensures ∙ ap (word f) w ∙ ended-vector (a .nodes .now) (o .result) (a .count) φ rep (o .ensures),
-      rw (c .end-word .ensures) (word-small f (a .width) (start .pre .1)),
+      λ φ rep w. c .end-word .ensures ∙ ap (ofBits f) w ∙ ended-vector (a .nodes .now) (o .result) (a .count) φ rep (o .ensures),
+      rw (c .end-word .ensures) (ofBits-small f (a .width) (start .pre .1)),
     )))

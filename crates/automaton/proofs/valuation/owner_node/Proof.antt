@@ -2,7 +2,7 @@
 use mathlib.Core.Path.{_≡_, sym, ap, ap₂, _∙_}
 use Prim.Native.Nat.{ℕ}
 use lib.ListN.{getD}
-use Rattle.automaton.specs.inner.Nodes.{kindOf, ownerOf, owner}
+use Rattle.automaton.specs.inner.Nodes.{nodeKind, ownerOf, owner}
 use Rattle.automaton.proofs.CoordinateLaws.{owner-suc}
 use borrow.Author.Needs.{needs}
 use Rattle.automaton.proofs.valuation.owner_node.Statement.{statement}
@@ -21,5 +21,5 @@ owner-node-spec =
     (λ c.
     let a = c .before .before .before .before .before .before .args in
     let o : c .before .before .node-at .result ≡ getD (a .places .now) (a .j) 0 = c .before .before .node-at .ensures in
-    let kind = ap kindOf (c .before .node-at2 .ensures ∙ ap (λ (k : ℕ). getD (a .nodes .now) k 0) o) in
+    let kind = ap nodeKind (c .before .node-at2 .ensures ∙ ap (λ (k : ℕ). getD (a .nodes .now) k 0) o) in
     c .owner-of .ensures ∙ ap₂ ownerOf kind o ∙ sym (owner-suc (a .nodes .now) (a .places .now) (a .count) (a .j) (c .before .before .before .if1 .left))))

@@ -2,7 +2,7 @@
 use mathlib.Core.Path.{_≡_, sym, _∙_}
 use native.Mathlib.Omega.{arith}
 use Rattle.reader.specs.declared.marks.Kind.the-variants.{Operand}
-use Rattle.reader.specs.Marks.{kindOf}
+use Rattle.reader.specs.Marks.{markKind}
 use Rattle.reader.proofs.MarkLaws.{argument-small}
 use borrow.Author.Needs.{needs}
 use Rattle.reader.proofs.levels.node.Statement.{statement}
@@ -23,7 +23,7 @@ operand-argument-requires c κs = sym (c .before .before .before .kind-of .ensur
 word-requires : tie.Need-word-requires
 word-requires c κs =
     let a = c .before .before .before .before .before in
-    let k : kindOf (a .args .b) ≡ Operand = sym (c .before .before .before .before .kind-of .ensures) ∙ c .before .before .enum-told .given .1 in
+    let k : markKind (a .args .b) ≡ Operand = sym (c .before .before .before .before .kind-of .ensures) ∙ c .before .before .enum-told .given .1 in
     omega (arith, c .operand-argument .ensures, argument-small (a .args .i) (a .args .b) (a .args .coordinate) k (omega arith) (a .pre .1), a .pre .0)
 
 enum-told-2 : tie.Need-enum-told-2

@@ -5,13 +5,13 @@ use mathlib.Core.Path.{_≡_, _∙_}
 use Prim.Native.Nat.{_-_, _≤_}
 use native.Mathlib.Omega.{arith}
 use lib.ListN.{length, drop}
-use Rattle.reader.specs.Grammar.{marks}
+use Rattle.reader.specs.Grammar.{withoutBlanks}
 use Rattle.reader.proofs.TextLaws.{blank-at}
 use Rattle.reader.proofs.levels.skip.Statement.{statement}
 use Rattle.reader.proofs.levels.skip.Tie as tie
 
 abbrev Inv-loop : tie.InvT-loop
-Inv-loop text at k₀ k = (at ≤ k) × (k ≤ length text) × (marks (drop k text) ≡ marks (drop at text))
+Inv-loop text at k₀ k = (at ≤ k) × (k ≤ length text) × (withoutBlanks (drop k text) ≡ withoutBlanks (drop at text))
 
 abbrev μ-loop : tie.MeasureT-loop
 μ-loop text at k₀ k = length text - k

@@ -1,4 +1,4 @@
--- `reader::marks::kind_of` meets its contract: at each return the tests before it, put into `kindOf`, leave that return's kind. Assumes nothing.
+-- `reader::marks::kind_of` meets its contract: at each return the tests before it, put into `markKind`, leave that return's kind. Assumes nothing.
 use mathlib.Core.Path.{_≡_, sym, _∙_}
 use mathlib.Core.Bool.{cond}
 use Prim.Native.Nat.{ℕ}
@@ -7,7 +7,7 @@ use borrow.Author.Needs.{needs}
 use borrow.Author.Tests.{eq-eqb, ne-eqb}
 use Rattle.reader.specs.declared.marks.Kind.{Kind}
 use Rattle.reader.specs.declared.marks.Kind.the-variants.{Infix, Open, Close, Other}
-use Rattle.reader.specs.Marks.{kindOf}
+use Rattle.reader.specs.Marks.{markKind}
 use Rattle.reader.proofs.marks.kind_of.Statement.{statement}
 use Rattle.reader.proofs.marks.kind_of.Tie as tie
 
@@ -16,15 +16,15 @@ abbrev unlisted : ℕ → Kind
 unlisted b = cond (eqb b 38) (Infix 2) (cond (eqb b 124) (Infix 3) (cond (eqb b 62) (Infix 4) (cond (eqb b 40) Open (cond (eqb b 41) Close Other))))
 
 -- what is known after the three lists
-past-lists : (c : tie.Else3) → kindOf (c .before .before .before .before .before .before .before .before .before .args .b) ≡ unlisted (c .before .before .before .before .before .before .before .before .before .args .b)
-unfolding kindOf
+past-lists : (c : tie.Else3) → markKind (c .before .before .before .before .before .before .before .before .before .args .b) ≡ unlisted (c .before .before .before .before .before .before .before .before .before .args .b)
+unfolding markKind
 past-lists c =
     let d = c .before .before .before in
     let e = d .before .before .before in
     simp (sym (e .before .among .ensures) ∙ e .if1 .left, sym (d .before .among2 .ensures) ∙ d .if2 .left, sym (c .before .among3 .ensures) ∙ c .if3 .left)
 
 pub kind-of-spec : {M : Type 1} → statement M
-unfolding kindOf
+unfolding markKind
 kind-of-spec =
     tie.close
     (tie.spec

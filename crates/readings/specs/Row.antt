@@ -56,7 +56,7 @@ arenaFor r transitions flags mask = arena (r .inputs) (r .outputs) (r .count) tr
 
 -- what the row says: i and o are in range, its texts are good and within all limits, the rule has n states, and the verdict holds on the rule's automaton:
 -- on the lists and the mask that are computed from the definitions, and on any others that hold the same, such as the rule call's buffers
-pub record Reading (r : Row) : Type 0 where
+pub record RowHolds (r : Row) : Type 0 where
   pub small : badAlphabet (r .inputs) (r .outputs) ≡ false
   pub formula : Formula
   pub good : IsGood (r .inputs) (ruleKind (r .inputs) (r .outputs)) (r .rule) formula

@@ -25,7 +25,7 @@ use Rattle.automaton.specs.declared.construct.Construction.the-variants.{Built,
 use Rattle.automaton.specs.Limits.{stateLimit}
 use Rattle.automaton.specs.Alphabet.{badAlphabet, letterCount}
 use Rattle.automaton.specs.Condition.{maskOf}
-use Rattle.automaton.specs.Construction.{shortAutomaton, constructRefusal, Constructed, RuleServed as AutomatonServed}
+use Rattle.automaton.specs.Construction.{shortAutomaton, constructRefusal, Constructed, ConstructionServed}
 use Rattle.automaton.proofs.ReadLaws.{count-of}
 use Rattle.automaton.proofs.ConstructionLaws.{long-enough}
 use Rattle.game.specs.declared.answer.Answer.{Answer}
@@ -139,8 +139,8 @@ module _ (fair : Bool) (i o : ℕ) (rule condition : List ℕ) (old : Buffers) (
     is-served : (made .refusal ≡ Nothing) × (n ≡ made .states)
     is-served = built-is (made .refusal) (made .states) n (made .answer)
 
-    automaton-of : AutomatonServed i o rule n (old .transitions) (old .accepting) t a
-    automaton-of = subst (λ (m : ℕ). AutomatonServed i o rule m (old .transitions) (old .accepting) t a) (sym (is-served .1)) (made .served (is-served .0))
+    automaton-of : ConstructionServed i o rule n (old .transitions) (old .accepting) t a
+    automaton-of = subst (λ (m : ℕ). ConstructionServed i o rule m (old .transitions) (old .accepting) t a) (sym (is-served .1)) (made .served (is-served .0))
 
     few : n ≤ stateLimit
     few = on (ltb stateLimit n)

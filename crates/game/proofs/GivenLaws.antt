@@ -18,6 +18,7 @@ use Rattle.automaton.specs.Trial.{firstOver}
 use Rattle.automaton.proofs.FirstOverLaws.{none-over, letter-at}
 use Rattle.game.specs.declared.answer.Answer.the-variants.{Refused}
 use Rattle.game.specs.Answer.{verdictOf}
+use Rattle.plays.specs.declared.mode.Mode.{Mode}
 use Rattle.plays.specs.Arena.{Arena, arena}
 use Rattle.game.specs.inner.Game.{Valid}
 use Rattle.game.specs.Tables.{Tables, Verdict}
@@ -141,10 +142,10 @@ accepted i o start n transitions flags mask σ τ e =
     }
 
 -- the promise of a refused call, and of a served one
-pub solved-refused : (refusal : Refusal) (fair : Bool) (start : ℕ) (G : Arena) (σ τ : List ℕ) → (refusal ≡ Nothing → ⊥) → Solved refusal fair start G σ τ σ τ (Refused refusal)
-solved-refused refusal fair start G σ τ ne = record { number = refl; place = refl; refused = λ _. (refl, refl, refl); served = λ e. absurd (ne e) }
+pub solved-refused : (refusal : Refusal) (mode : Mode) (start : ℕ) (G : Arena) (σ τ : List ℕ) → (refusal ≡ Nothing → ⊥) → Solved refusal mode start G σ τ σ τ (Refused refusal)
+solved-refused refusal mode start G σ τ ne = record { number = refl; place = refl; refused = λ _. (refl, refl, refl); served = λ e. absurd (ne e) }
 
-pub solved-served : (refusal : Refusal) (fair : Bool) (start : ℕ) (G : Arena) (σ₀ τ₀ σ τ : List ℕ) (can : Bool) → refusal ≡ Nothing → Tables fair G σ₀ τ₀ σ τ
-    → Verdict fair G σ τ start can → Solved refusal fair start G σ₀ τ₀ σ τ (verdictOf can (G .states))
-solved-served refusal fair start G σ₀ τ₀ σ τ can e t v =
+pub solved-served : (refusal : Refusal) (mode : Mode) (start : ℕ) (G : Arena) (σ₀ τ₀ σ τ : List ℕ) (can : Bool) → refusal ≡ Nothing → Tables mode G σ₀ τ₀ σ τ
+    → Verdict mode G σ τ start can → Solved refusal mode start G σ₀ τ₀ σ τ (verdictOf can (G .states))
+solved-served refusal mode start G σ₀ τ₀ σ τ can e t v =
     record { number = verdict-number can (G .states) ∙ sym (ap numberOf e); place = verdict-place can (G .states) ∙ sym (ap placeOf e); refused = λ ne. absurd (ne e); served = λ _. (can, refl, t, v) }

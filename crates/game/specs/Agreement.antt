@@ -9,6 +9,7 @@ use mathlib.Core.Bool.{Bool, true, false}
 use mathlib.Core.List.{List}
 use lib.Dec.{eqb}
 use lib.ListN.{length, getD}
+use Rattle.plays.specs.Arena.{Player}
 use Rattle.game.specs.declared.answer.Answer.{Answer}
 use Rattle.game.specs.Answer.{answerNumber, answerStates}
 use Rattle.game.specs.Tables.{noMove}
@@ -18,10 +19,11 @@ use Rattle.game.specs.Rule.{Buffers}
 abbrev pub isNoMove : List ℕ → ℕ → Bool
 isNoMove table k = eqb (getD table k 0) noMove
 
--- the bytes of state s in a player's table (true for the system, false for the environment) are free: the state is below n, and the player wins it, which the
--- environment's table τ tells, since it has 255 exactly where the system wins (proofs/OneAnswer.antt, system-free and environment-free)
-abbrev pub Free : ℕ → List ℕ → Bool → ℕ → Type 0
-Free n τ player s = (s < n) × (isNoMove τ s ≡ player)
+-- the bytes of state s in a player's table are free: the state is below n, and the player wins it, which the environment's table τ tells, since it has 255
+-- exactly where the system wins (proofs/OneAnswer.antt, system-free and environment-free)
+abbrev pub Free : ℕ → List ℕ → Player → ℕ → Type 0
+Free n τ Player.system s = (s < n) × (isNoMove τ s ≡ true)
+Free n τ Player.environment s = (s < n) × (isNoMove τ s ≡ false)
 
 -- a table in two runs: as long, 255 at the same bytes, and the same at every byte that is not free
 pub record TableAgrees (free : ℕ → Type 0) (table table′ : List ℕ) : Type 0 where
@@ -31,8 +33,8 @@ pub record TableAgrees (free : ℕ → Type 0) (table table′ : List ℕ) : Typ
 
 -- both tables in two runs on n states: the system's has a byte for each input of a state, the environment's one byte a state
 pub record TablesAgree (n inputs : ℕ) (σ τ σ′ τ′ : List ℕ) : Type 0 where
-  pub system : TableAgrees (λ k. Free n τ true (k / inputs)) σ σ′
-  pub environment : TableAgrees (Free n τ false) τ τ′
+  pub system : TableAgrees (λ k. Free n τ Player.system (k / inputs)) σ σ′
+  pub environment : TableAgrees (Free n τ Player.environment) τ τ′
 
 -- both tables after runs with this number of the specification's: served on n states, they agree; refused, they are the same
 pub record TablesAfter (number n inputs : ℕ) (σ τ σ′ τ′ : List ℕ) : Type 0 where

@@ -12,6 +12,7 @@ use Rattle.automaton.specs.Trace.{Satisfies}
 use Rattle.automaton.specs.Condition.{maskOf, Judges}
 use Rattle.game.specs.declared.answer.Answer.{Answer}
 use Rattle.game.specs.declared.answer.Answer.the-variants.{Can, Cannot, Refused}
+use Rattle.plays.specs.declared.mode.Mode.{Mode}
 use Rattle.plays.specs.Arena.{Arena, arena}
 use Rattle.plays.specs.Play.{Step, letters}
 use Rattle.game.specs.Rule.{Buffers}
@@ -34,17 +35,17 @@ abbrev pub arenaLeft : ℕ → ℕ → ℕ → Buffers → Formula → Arena
 arenaLeft i o n new κ = arena i o n (new .transitions) (new .accepting) (maskOf κ i)
 
 -- the rule call's answer: on "can" and on "cannot", in terms of beginnings that satisfy the rule
-abbrev pub RuleEndless : Bool → ℕ → ℕ → List ℕ → List ℕ → Buffers → Answer → Type 0
-RuleEndless fair i o rule condition new (Can n) =
+abbrev pub RuleEndless : Mode → ℕ → ℕ → List ℕ → List ℕ → Buffers → Answer → Type 0
+RuleEndless mode i o rule condition new (Can n) =
     (t : Texts i o rule condition)
-    × CanEndless fair (arenaLeft i o n new (t .assumption)) (new .system) 0 (Satisfying (t .formula) (arenaLeft i o n new (t .assumption)))
-RuleEndless fair i o rule condition new (Cannot n) =
+    × CanEndless mode (arenaLeft i o n new (t .assumption)) (new .system) 0 (Satisfying (t .formula) (arenaLeft i o n new (t .assumption)))
+RuleEndless mode i o rule condition new (Cannot n) =
     (t : Texts i o rule condition)
-    × CannotEndless fair (arenaLeft i o n new (t .assumption)) (new .environment) 0 (Satisfying (t .formula) (arenaLeft i o n new (t .assumption)))
-RuleEndless fair i o rule condition new (Refused x) = Unit {0}
+    × CannotEndless mode (arenaLeft i o n new (t .assumption)) (new .environment) 0 (Satisfying (t .formula) (arenaLeft i o n new (t .assumption)))
+RuleEndless mode i o rule condition new (Refused x) = Unit {0}
 
 -- the answer for a given automaton, in terms of goals entered
-abbrev pub GivenEndless : Bool → Arena → List ℕ → List ℕ → ℕ → Answer → Type 0
-GivenEndless fair G σ τ start (Can n) = CanEndless fair G σ start (Reaching G start)
-GivenEndless fair G σ τ start (Cannot n) = CannotEndless fair G τ start (Reaching G start)
-GivenEndless fair G σ τ start (Refused x) = Unit {0}
+abbrev pub GivenEndless : Mode → Arena → List ℕ → List ℕ → ℕ → Answer → Type 0
+GivenEndless mode G σ τ start (Can n) = CanEndless mode G σ start (Reaching G start)
+GivenEndless mode G σ τ start (Cannot n) = CannotEndless mode G τ start (Reaching G start)
+GivenEndless mode G σ τ start (Refused x) = Unit {0}

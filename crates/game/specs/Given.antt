@@ -16,6 +16,7 @@ use Rattle.automaton.specs.Trial.{afterList}
 use Rattle.game.specs.declared.answer.Answer.{Answer}
 use Rattle.game.specs.declared.answer.Answer.the-variants.{Refused}
 use Rattle.game.specs.Answer.{answerNumber, answerPlace, verdictOf}
+use Rattle.plays.specs.declared.mode.Mode.{Mode}
 use Rattle.plays.specs.Arena.{Arena}
 use Rattle.game.specs.Tables.{Tables, Verdict}
 
@@ -52,12 +53,12 @@ unfoldable pub givenRefusal : ℕ → ℕ → ℕ → Arena → List ℕ → Lis
 givenRefusal i o start G σ τ = cond (badAlphabet i o) Alphabet (cond (badCount (G .states)) GivenCount (laterRefusal start G σ τ))
 
 -- the promise with this refusal coming first: the specification's number and place, the answer and both tables on every input
-pub record Solved (refusal : Refusal) (fair : Bool) (start : ℕ) (G : Arena) (σ₀ τ₀ σ τ : List ℕ) (r : Answer) : Type 0 where
+pub record Solved (refusal : Refusal) (mode : Mode) (start : ℕ) (G : Arena) (σ₀ τ₀ σ τ : List ℕ) (r : Answer) : Type 0 where
   pub number : answerNumber r ≡ numberOf refusal
   pub place : answerPlace r ≡ placeOf refusal
   pub refused : (refusal ≡ Nothing → ⊥) → (r ≡ Refused refusal) × (σ ≡ σ₀) × (τ ≡ τ₀)
-  pub served : refusal ≡ Nothing → (can : Bool) × (r ≡ verdictOf can (G .states)) × Tables fair G σ₀ τ₀ σ τ × Verdict fair G σ τ start can
+  pub served : refusal ≡ Nothing → (can : Bool) × (r ≡ verdictOf can (G .states)) × Tables mode G σ₀ τ₀ σ τ × Verdict mode G σ τ start can
 
 -- the whole promise
-abbrev pub GivenSolved : Bool → ℕ → ℕ → ℕ → Arena → List ℕ → List ℕ → List ℕ → List ℕ → Answer → Type 0
-GivenSolved fair i o start G σ₀ τ₀ σ τ r = Solved (givenRefusal i o start G σ₀ τ₀) fair start G σ₀ τ₀ σ τ r
+abbrev pub GivenSolved : Mode → ℕ → ℕ → ℕ → Arena → List ℕ → List ℕ → List ℕ → List ℕ → Answer → Type 0
+GivenSolved mode i o start G σ₀ τ₀ σ τ r = Solved (givenRefusal i o start G σ₀ τ₀) mode start G σ₀ τ₀ σ τ r

@@ -2,7 +2,7 @@
 ghost use mathlib.Core.Path.{_≡_};
 ghost use mathlib.Core.Bool.{false};
 ghost use Rattle.automaton.specs.Alphabet.{badAlphabet};
-ghost use Rattle.plays.specs.Arena.{isFair};
+ghost use Rattle.plays.specs.inner.Rank.{isFair};
 ghost use Rattle.game.specs.inner.Game.{arenaOf};
 ghost use Rattle.game.specs.inner.Checks.{gameOf, InRange};
 ghost use Rattle.game.specs.Given.{badCount, shortRead};

@@ -4,7 +4,7 @@ ghost use mathlib.Core.Bool.{not};
 ghost use Prim.Native.Nat.{_/_, _^_, _≤_};
 ghost use mathlib.Core.List.{[]};
 ghost use lib.Dec.{eqb};
-ghost use Rattle.plays.specs.Arena.{arena, isFair};
+ghost use Rattle.plays.specs.Arena.{arena};
 ghost use Rattle.game.specs.inner.Game.{arenaOf};
 ghost use Rattle.game.specs.inner.Checks.{InRange};
 ghost use Rattle.game.specs.Given.{shortTables, laterRefusal, givenRefusal, GivenSolved};
@@ -111,7 +111,7 @@ pub fn solve_given(
     system: &mut [u8],
     environment: &mut [u8],
 ) -> Answer
-    ensures { λ r. ⌜ GivenSolved (isFair mode) i o start (arena i o n (now (transitions .entry)) (now (accepting .entry)) mask) (now (system .entry)) (now (environment .entry)) (now (system .exit)) (now (environment .exit)) r ⌝ }
+    ensures { λ r. ⌜ GivenSolved mode i o start (arena i o n (now (transitions .entry)) (now (accepting .entry)) mask) (now (system .entry)) (now (environment .entry)) (now (system .exit)) (now (environment .exit)) r ⌝ }
 {
     let refusal = given_refusal(
         i,

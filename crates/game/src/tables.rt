@@ -4,7 +4,7 @@ ghost use mathlib.Core.Bool.{Bool, true, false, not};
 ghost use Prim.Native.Nat.{ℕ, _*_, _<_, _≤_};
 ghost use lib.ListN.{length, getD};
 ghost use Rattle.plays.specs.Arena.{Arena};
-ghost use Rattle.plays.specs.inner.Rank.{Ranked, Ranking};
+ghost use Rattle.plays.specs.inner.Rank.{modeOf, Ranked, Ranking};
 ghost use Rattle.game.specs.inner.Game.{arenaOf, Valid};
 ghost use Rattle.game.specs.Tables.{Tables, Verdict};
 ghost use Rattle.game.specs.inner.Bytes.{
@@ -232,7 +232,7 @@ fn fill(
     requires { ⌜ Valid (arenaOf g (now transitions) (now accepting)) ⌝ }
     requires { ⌜ Ranking (g .fair) (arenaOf g (now transitions) (now accepting)) (now «system_ranks») (now «environment_ranks») ⌝ }
     requires { ⌜ (0 < g .inputs) × (128 * g .inputs ≤ length (now system)) × (128 ≤ length (now environment)) ⌝ }
-    ensures { λ _. ⌜ Tables (g .fair) (arenaOf g (now (transitions .entry)) (now (accepting .entry))) (now (system .entry)) (now (environment .entry)) (now (system .exit)) (now (environment .exit)) ⌝ }
+    ensures { λ _. ⌜ Tables (modeOf (g .fair)) (arenaOf g (now (transitions .entry)) (now (accepting .entry))) (now (system .entry)) (now (environment .entry)) (now (system .exit)) (now (environment .exit)) ⌝ }
 {
     fill_system(g, transitions, accepting, system_ranks, system);
     fill_environment(g, transitions, accepting, environment_ranks, environment);
@@ -250,8 +250,8 @@ pub(crate) fn decide(
     requires { ⌜ Valid (arenaOf g (now transitions) (now accepting)) ⌝ }
     requires { ⌜ start < g .states ⌝ }
     requires { ⌜ (0 < g .inputs) × (128 * g .inputs ≤ length (now system)) × (128 ≤ length (now environment)) ⌝ }
-    ensures { λ r. ⌜ Tables (g .fair) (arenaOf g (now (transitions .entry)) (now (accepting .entry))) (now (system .entry)) (now (environment .entry)) (now (system .exit)) (now (environment .exit)) ⌝ }
-    ensures { λ r. ⌜ Verdict (g .fair) (arenaOf g (now (transitions .entry)) (now (accepting .entry))) (now (system .exit)) (now (environment .exit)) start r ⌝ }
+    ensures { λ r. ⌜ Tables (modeOf (g .fair)) (arenaOf g (now (transitions .entry)) (now (accepting .entry))) (now (system .entry)) (now (environment .entry)) (now (system .exit)) (now (environment .exit)) ⌝ }
+    ensures { λ r. ⌜ Verdict (modeOf (g .fair)) (arenaOf g (now (transitions .entry)) (now (accepting .entry))) (now (system .exit)) (now (environment .exit)) start r ⌝ }
 {
     let ranks = solve(g, transitions, accepting);
     let system_ranks = ranks.system;

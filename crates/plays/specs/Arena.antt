@@ -9,8 +9,10 @@ use lib.Dec.{eqb}
 use lib.ListN.{getD}
 use Rattle.automaton.specs.Alphabet.{letterOf}
 use Rattle.automaton.specs.Bits.{bit}
-use Rattle.plays.specs.declared.mode.Mode.{Mode}
-use Rattle.plays.specs.declared.mode.Mode.the-variants.{Fair, Stable}
+
+-- the two players
+pub data Player : Type 0 where
+  system environment : Player
 
 -- n states, 2^i input and 2^o output numbers, the transitions, the accepting flags and the assumption as a mask: the specification's moves, marks and condition
 pub record Arena : Type 0 where
@@ -45,8 +47,3 @@ holds G x = bit (G .mask) x
 
 abbrev pub lacks : Arena → ℕ → Bool
 lacks G x = not (holds G x)
-
--- the mode: fair, the condition holds again and again, or stable, from some step on it holds always
-abbrev pub isFair : Mode → Bool
-isFair Fair = Bool.true
-isFair Stable = Bool.false

@@ -1,5 +1,5 @@
 -- Ranks: the certificates by which a game is solved, a number for each state and player, each a statement about one step.
--- A player is true for the system and false for the environment.
+-- A player is true for the system and false for the environment, and the mode true for fair: the player of the steady ranks is then the mode.
 -- Assumes nothing.
 use Prim.Native.Nat.{ℕ, _<_, _≤_}
 use mathlib.Core.Path.{_≡_}
@@ -7,7 +7,18 @@ use mathlib.Core.Bool.{Bool, true, false, not}
 use mathlib.Core.List.{List}
 use mathlib.Core.Logic.{_⊎_}
 use lib.ListN.{getD}
+use Rattle.plays.specs.declared.mode.Mode.{Mode}
+use Rattle.plays.specs.declared.mode.Mode.the-variants.{Fair, Stable}
 use Rattle.plays.specs.Arena.{Arena, next, goal, holds, lacks}
+
+-- the mode as a truth value, and back
+abbrev pub isFair : Mode → Bool
+isFair Fair = true
+isFair Stable = false
+
+abbrev pub modeOf : Bool → Mode
+modeOf true = Fair
+modeOf false = Stable
 
 -- the inputs at which the player's rank has to fall: with the condition for the system, without it for the environment
 abbrev pub judged : Arena → Bool → ℕ → Bool

@@ -10,8 +10,10 @@ use native.Mathlib.Nat.{mod-lt, div-add-mod', mul-le-mul-right}
 use native.Mathlib.Omega.{arith}
 use lib.Dec.{eqb, ltb}
 use lib.ListN.{length, getD}
-use lib.Pow.{pow-pos, pow-mono}
+use lib.Pow.{pow-pos}
 use borrow.Author.Tests.{eq-eqb, ne-eqb, ltb-true, ltb-false}
+use Rattle.game.proofs.CheckLaws.{small-power}
+use Rattle.game.specs.inner.Limits.{numberLimit}
 use Rattle.reader.specs.declared.reading.Reading.{Reading}
 use Rattle.reader.specs.declared.reading.Reading.the-variants.{Good, TooLong, Bad, TooManyNodes, TooManyOperators}
 use Rattle.reader.specs.declared.refusal.Refusal.{Refusal}
@@ -167,8 +169,8 @@ module _ {mode : Mode} (i o : ℕ) {start n : ℕ} {transitions accepting : List
       let u = x .served z in
       let v = y .served z in
       let a = passed (badAlphabet i o) Alphabet _ (omega arith) z .0 in
-      let few : 2 ^ i ≤ 16 = pow-mono {j = 4} (inputs-fit i o a) in
-      let few′ : 2 ^ o ≤ 16 = pow-mono {j = 4} (outputs-fit i o a) in
+      let few : 2 ^ i ≤ numberLimit = small-power i (inputs-fit i o a) in
+      let few′ : 2 ^ o ≤ numberLimit = small-power o (outputs-fit i o a) in
       record {
         answer = u .1 ∙ ap (λ (c : Bool). verdictOf c n) (one-verdict mode G σ τ σ′ τ′ start (u .0) (v .0) (u .3) (v .3)) ∙ sym (v .1);
         tables = after-verdict _ n (2 ^ i) σ τ σ′ τ′ (x .number ∙ ap numberOf z)
@@ -261,8 +263,8 @@ module _ {mode : Mode} {i o : ℕ} {rule condition : List ℕ} {old new new′ :
       let m : y .states ≡ x .states = y .counted (s .formula) (s .good) ∙ sym (x .counted (s .formula) (s .good)) in
       let w = moved (x .states) (y .states) m (s .assumption) (t .assumption) κ (v .0) (t .tables, t .verdict) in
       let a = passed (badAlphabet i o) Alphabet _ (omega arith) (sym (x .first) ∙ z) .0 in
-      let few : 2 ^ i ≤ 16 = pow-mono {j = 4} (inputs-fit i o a) in
-      let few′ : 2 ^ o ≤ 16 = pow-mono {j = 4} (outputs-fit i o a) in
+      let few : 2 ^ i ≤ numberLimit = small-power i (inputs-fit i o a) in
+      let few′ : 2 ^ o ≤ numberLimit = small-power o (outputs-fit i o a) in
       let G = of (x .states) (s .assumption) in (
         u .1 ∙ ap₂ verdictOf (one-verdict mode G _ _ _ _ 0 (u .0) (v .0) (s .verdict) (w .1)) (sym m) ∙ sym (v .1),
         after-verdict _ _ (2 ^ i) _ _ _ _ (x .number ∙ ap numberOf z)

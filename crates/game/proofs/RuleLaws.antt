@@ -113,7 +113,7 @@ module _ (φ : Formula) (i o n : ℕ) (transitions flags : List ℕ) (mask : ℕ
           states-fit = few;
           inputs-fit = small-power i (inputs-fit i o a);
           outputs-fit = small-power o (outputs-fit i o a);
-          long = omega (arith, mul-le-mul-right L few, ap (λ (m : ℕ). 128 * m) (pow-add 2 i o));
+          long = omega (arith, mul-le-mul-right L few, ap (λ (m : ℕ). stateLimit * m) (pow-add 2 i o));
           closed = λ k h. subst (λ (j : ℕ). getD transitions j 0 < n) (div-add-mod' k L) (on-product .moved (k / L) (k % L) (div-lt-iff-lt-mul positive .1 h) (mod-lt k positive) .0);
         };
         accepting-long = omega arith;

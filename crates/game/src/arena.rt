@@ -1,6 +1,7 @@
 // The arena in code: its numbers, and one step on its transitions.
 ghost use mathlib.Core.Path.{_≡_};
 ghost use Prim.Native.Nat.{ℕ, _<_};
+ghost use Rattle.game.specs.inner.Limits.{numberLimit};
 ghost use Rattle.automaton.specs.Bits.{bit};
 ghost use Rattle.plays.specs.Arena.{Arena, next};
 ghost use Rattle.game.specs.inner.Game.{arenaOf, Closed, Entered};
@@ -16,7 +17,7 @@ pub struct Game {
 
 // Whether input x has the condition.
 pub(crate) fn has_condition(mask: u16, x: usize) -> bool
-    requires { ⌜ x < 16 ⌝ }
+    requires { ⌜ x < numberLimit ⌝ }
     ensures { λ r. ⌜ r ≡ bit mask x ⌝ }
 {
     (mask >> x) % 2 == 1

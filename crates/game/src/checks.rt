@@ -7,6 +7,7 @@ ghost use Rattle.game.specs.inner.Game.{arenaOf};
 ghost use Rattle.game.specs.inner.Checks.{gameOf, InRange};
 ghost use Rattle.game.specs.Given.{badCount, shortRead};
 use crate::arena::Game;
+use crate::limits::STATE_LIMIT;
 use automaton::alphabet::power;
 use plays::mode::Mode;
 
@@ -17,7 +18,7 @@ pub(crate) fn bad_count(n: usize) -> bool
     if n == 0 {
         return true;
     }
-    128 < n
+    STATE_LIMIT < n
 }
 
 // Whether the mode is fair.

@@ -4,6 +4,7 @@ ghost use mathlib.Core.Bool.{not};
 ghost use Prim.Native.Nat.{_/_, _^_, _≤_};
 ghost use mathlib.Core.List.{[]};
 ghost use lib.Dec.{eqb};
+ghost use Rattle.game.specs.inner.Limits.{numberLimit};
 ghost use Rattle.plays.specs.Arena.{arena};
 ghost use Rattle.game.specs.inner.Game.{arenaOf};
 ghost use Rattle.game.specs.inner.Checks.{InRange};
@@ -13,6 +14,7 @@ use crate::arena::Game;
 use crate::checks::bad_count;
 use crate::checks::game_of;
 use crate::checks::short_read;
+use crate::limits::STATE_LIMIT;
 use crate::tables::decide;
 use automaton::alphabet::bad_alphabet;
 use automaton::alphabet::first_over;
@@ -24,15 +26,15 @@ fn short_tables(g: Game, system: &[u8], environment: &[u8]) -> bool
     requires { ⌜ InRange g ⌝ }
     ensures { λ r. ⌜ r ≡ shortTables (arenaOf g [] []) (now (system .entry)) (now (environment .entry)) ⌝ }
 {
-    if system.len() < 128 * g.inputs {
+    if system.len() < STATE_LIMIT * g.inputs {
         return true;
     }
-    environment.len() < 128
+    environment.len() < STATE_LIMIT
 }
 
 // Whether the mask has a bit from place `inputs` up.
 fn bad_mask(mask: u16, inputs: usize) -> bool
-    requires { ⌜ inputs ≤ 16 ⌝ }
+    requires { ⌜ inputs ≤ numberLimit ⌝ }
     ensures { λ r. ⌜ r ≡ not (eqb (mask / 2 ^ inputs) 0) ⌝ }
 {
     let wider = mask as u32;

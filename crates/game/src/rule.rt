@@ -7,6 +7,7 @@ ghost use Rattle.game.specs.Rule.{Buffers, buffers, shortBuffers, RuleSo
 ghost use Rattle.game.specs.inner.RuleChecks.{RuleChecked};
 use crate::answer::Answer;
 use crate::checks::game_of;
+use crate::limits::STATE_LIMIT;
 use crate::tables::decide;
 use automaton::alphabet::bad_alphabet;
 use automaton::alphabet::power;
@@ -39,16 +40,16 @@ fn short_buffers(
     requires { ⌜ badAlphabet i o ≡ false ⌝ }
     ensures { λ r. ⌜ r ≡ shortBuffers i o (buffers (now (transitions .entry)) (now (accepting .entry)) (now (system .entry)) (now (environment .entry))) ⌝ }
 {
-    if transitions.len() < 128 * power(i + o) {
+    if transitions.len() < STATE_LIMIT * power(i + o) {
         return true;
     }
-    if accepting.len() < 128 {
+    if accepting.len() < STATE_LIMIT {
         return true;
     }
-    if system.len() < 128 * power(i) {
+    if system.len() < STATE_LIMIT * power(i) {
         return true;
     }
-    environment.len() < 128
+    environment.len() < STATE_LIMIT
 }
 
 // The refusal by the two texts, once the earlier tests are passed, or the condition's mask.

@@ -5,6 +5,7 @@ use mathlib.Core.Path.{_≡_}
 use mathlib.Core.Bool.{Bool, true, false}
 use mathlib.Core.List.{List}
 use lib.ListN.{length, getD}
+use Rattle.game.specs.inner.Limits.{rankLimit}
 use Rattle.automaton.specs.Limits.{stateLimit}
 use Rattle.plays.specs.Arena.{Arena, next}
 use Rattle.plays.specs.inner.Rank.{Safe, AllowedOutput, AllowedInput}
@@ -14,7 +15,7 @@ use Rattle.game.specs.Tables.{noMove}
 abbrev pub limitOf : Bool → Bool → ℕ → ℕ
 limitOf steady true own = own - 1
 limitOf true false own = own
-limitOf false false own = 255
+limitOf false false own = rankLimit
 
 -- state t has a rank, and one that is at most `limit`
 abbrev pub Below : List ℕ → ℕ → ℕ → Type 0

@@ -2,6 +2,7 @@
 -- Assumes nothing.
 use Prim.Native.Nat.{ℕ, _^_, _<_, _≤_}
 use mathlib.Core.Bool.{Bool}
+use Rattle.game.specs.inner.Limits.{numberLimit}
 use Rattle.automaton.specs.Limits.{stateLimit}
 use Rattle.game.specs.declared.arena.Game.{Game}
 
@@ -12,6 +13,6 @@ gameOf fair mask n i o = record { fair = fair; mask = mask; states = n; inputs =
 -- its numbers are in range
 pub record InRange (g : Game) : Type 0 where
   pub states-fit : g .states ≤ stateLimit
-  pub inputs-fit : g .inputs ≤ 16
-  pub outputs-fit : g .outputs ≤ 16
+  pub inputs-fit : g .inputs ≤ numberLimit
+  pub outputs-fit : g .outputs ≤ numberLimit
   pub inputs-some : 0 < g .inputs

@@ -4,6 +4,7 @@ use Prim.Native.Nat.{ℕ, _*_, _<_, _≤_}
 use mathlib.Core.Path.{_≡_}
 use mathlib.Core.List.{List}
 use lib.ListN.{length, getD}
+use Rattle.game.specs.inner.Limits.{numberLimit}
 use Rattle.automaton.specs.Limits.{stateLimit}
 use Rattle.plays.specs.Arena.{Arena, next}
 use Rattle.game.specs.declared.arena.Game.{Game}
@@ -16,8 +17,8 @@ arenaOf g transitions accepting =
 -- the sizes are in range and every transition leads to a state
 pub record Closed (states inputs outputs : ℕ) (transitions : List ℕ) : Type 0 where
   pub states-fit : states ≤ stateLimit
-  pub inputs-fit : inputs ≤ 16
-  pub outputs-fit : outputs ≤ 16
+  pub inputs-fit : inputs ≤ numberLimit
+  pub outputs-fit : outputs ≤ numberLimit
   pub long : states * (inputs * outputs) ≤ length transitions
   pub closed : (k : ℕ) → k < states * (inputs * outputs) → getD transitions k 0 < states
 

@@ -7,12 +7,9 @@ use mathlib.Core.Bool.{Bool, true, false, not, _||_, _&&_}
 use mathlib.Core.List.{List}
 use lib.Dec.{eqb, ltb}
 use lib.ListN.{getD}
+use Rattle.game.specs.inner.Limits.{rankLimit}
 use Rattle.plays.specs.Arena.{Arena, next, goal, lacks}
 use Rattle.plays.specs.inner.Rank.{judged, Forces}
-
--- a limit above every rank
-abbrev pub everyRank : ℕ
-everyRank = 255
 
 -- whether state t has a rank below the limit
 unfoldable pub rankedBelow : ℕ → List ℕ → ℕ → Bool
@@ -46,11 +43,11 @@ Favorable G player won lost x t = (lost t ≡ false) × (judged G player x ≡ t
 
 -- the player of the inner ranks can see to it that the next step is favorable by the inner ranks below p
 abbrev pub Attracts : Bool → Arena → List ℕ → List ℕ → ℕ → ℕ → Type 0
-Attracts fair G outer inner p s = Forces G (not fair) s (Favorable G (not fair) (rankedBelow p inner) (rankedBelow everyRank outer))
+Attracts fair G outer inner p s = Forces G (not fair) s (Favorable G (not fair) (rankedBelow p inner) (rankedBelow rankLimit outer))
 
 -- the player of the outer ranks can see to it that the next step is favorable against the inner ranks below p
 abbrev pub Keeps : Bool → Arena → List ℕ → List ℕ → ℕ → ℕ → Type 0
-Keeps fair G outer inner p s = Forces G fair s (Favorable G fair (rankedBelow everyRank outer) (rankedBelow p inner))
+Keeps fair G outer inner p s = Forces G fair s (Favorable G fair (rankedBelow rankLimit outer) (rankedBelow p inner))
 
 -- r says whether pass p gives state s an inner rank
 pub record Attracted (fair : Bool) (G : Arena) (outer inner : List ℕ) (p s : ℕ) (r : Bool) : Type 0 where
@@ -83,7 +80,7 @@ pub record Passed (fair : Bool) (G : Arena) (outer old inner : List ℕ) (p k : 
 -- the inner ranks after the last pass: the player of the outer ranks can keep to the states without one
 pub record Attraction (fair : Bool) (G : Arena) (outer inner : List ℕ) : Type 0 where
   pub ranks : InnerRanks fair G outer inner (G .states + 1)
-  pub keeps : (s : ℕ) → s < G .states → Unranked outer inner s → Keeps fair G outer inner everyRank s
+  pub keeps : (s : ℕ) → s < G .states → Unranked outer inner s → Keeps fair G outer inner rankLimit s
 
 -- the states below n with neither rank got the outer rank r; gave says whether there is one
 pub record Promoted (n r : ℕ) (outer inner new : List ℕ) (gave : Bool) : Type 0 where

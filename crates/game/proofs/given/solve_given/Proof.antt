@@ -7,6 +7,7 @@ use mathlib.Core.Bool.{Bool, true, false}
 use Prim.Native.Nat.{ℕ, _*_, _<_, _≤_}
 use lib.ListN.{length}
 use denote.Ref.{now}
+use Rattle.automaton.specs.Limits.{stateLimit}
 use Rattle.reader.specs.declared.refusal.Refusal.{Refusal}
 use Rattle.reader.specs.declared.refusal.Refusal.the-variants.{Nothing}
 use Rattle.game.specs.declared.arena.Game.{Game}
@@ -83,7 +84,7 @@ solve-given-spec =
     let k = c .before .before .before in
     let a = start-of k .args in
     let w = accepts k in
-    subst (λ (g : Game). Valid (arenaOf g (now (a .transitions)) (now (a .accepting))) × ((a .start < g .states) × ((0 < g .inputs) × (128 * g .inputs ≤ length (now (a .system))) × (128 ≤ length (now (a .environment)))))) (sym (c .before .before .game-of .ensures))
+    subst (λ (g : Game). Valid (arenaOf g (now (a .transitions)) (now (a .accepting))) × ((a .start < g .states) × ((0 < g .inputs) × (stateLimit * g .inputs ≤ length (now (a .system))) × (stateLimit ≤ length (now (a .environment)))))) (sym (c .before .before .game-of .ensures))
     (w .valid, (w .start-fits, (w .inputs-some, w .system-long, w .environment-long))))
     (λ c. search needs)
     (λ c. search needs)

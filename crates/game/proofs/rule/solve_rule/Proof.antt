@@ -7,6 +7,7 @@ use mathlib.Core.Bool.{Bool, true, false}
 use Prim.Native.Nat.{ℕ, _*_, _^_, _<_, _≤_}
 use lib.ListN.{length}
 use denote.Ref.{now}
+use Rattle.automaton.specs.Limits.{stateLimit}
 use Rattle.reader.specs.declared.refusal.Refusal.{Refusal}
 use Rattle.reader.specs.declared.refusal.Refusal.the-variants.{Nothing}
 use Rattle.automaton.specs.declared.construct.Construction.{Construction}
@@ -109,7 +110,7 @@ solve-rule-spec =
     let t = told-of k in
     let a = start-of t .args in
     let w = tables-fit (a .mode) (a .i) (a .o) (now (a .rule)) (now (a .condition)) (old (start-of t)) (mask-of t) (checked t) (new-transitions k) (new-accepting k) in
-    subst (λ (g : Game). Valid (arenaOf g (new-transitions k) (new-accepting k)) × ((0 < g .states) × ((0 < g .inputs) × (128 * g .inputs ≤ length (now (a .system))) × (128 ≤ length (now (a .environment)))))) (sym (c .before .before .before .before .game-of .ensures)) (
+    subst (λ (g : Game). Valid (arenaOf g (new-transitions k) (new-accepting k)) × ((0 < g .states) × ((0 < g .inputs) × (stateLimit * g .inputs ≤ length (now (a .system))) × (stateLimit ≤ length (now (a .environment)))))) (sym (c .before .before .before .before .game-of .ensures)) (
       valid (a .mode) (a .i) (a .o) (now (a .rule)) (now (a .condition)) (old (start-of t)) (mask-of t) (checked t) (new-transitions k) (new-accepting k) (states k) (made k),
       (
         starts (a .mode) (a .i) (a .o) (now (a .rule)) (now (a .condition)) (old (start-of t)) (mask-of t) (checked t) (new-transitions k) (new-accepting k) (states k) (made k),

@@ -9,6 +9,7 @@ use native.Mathlib.Nat.{mul-le-mul}
 use lib.ListN.{length}
 use denote.Ref.{now}
 use borrow.Author.Tests.{ltb-false}
+use Rattle.automaton.specs.Limits.{stateLimit}
 use Rattle.plays.specs.Arena.{Arena}
 use Rattle.game.specs.inner.Game.{arenaOf}
 use Rattle.game.specs.Given.{shortRead}
@@ -54,10 +55,10 @@ step-spec =
     (sym (c .before .before .before .before .before .short-read .ensures) ∙ c .before .before .before .before .if1 .left) (sym (c .before .before .before .short-strategy .ensures) ∙ c .before .before .if2 .left) (c .before .if3 .left) (c .if4 .taken))
     (λ c.
     let z = start-of c in
-    let s : z .args .self .state ≤ 128 = omega (arith, z .pre) in omega (arith, mul-le-mul s (z .pre .inputs-fit)))
+    let s : z .args .self .state ≤ stateLimit = omega (arith, z .pre) in omega (arith, mul-le-mul s (z .pre .inputs-fit)))
     (λ c.
     let z = start-of c in
-    let s : z .args .self .state ≤ 128 = omega (arith, z .pre) in omega (arith, mul-le-mul s (z .pre .inputs-fit), z .pre .inputs-fit))
+    let s : z .args .self .state ≤ stateLimit = omega (arith, z .pre) in omega (arith, mul-le-mul s (z .pre .inputs-fit), z .pre .inputs-fit))
     (λ c.
     let k = c .before in
     let a = start-of k .args in

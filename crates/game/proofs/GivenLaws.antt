@@ -121,7 +121,7 @@ accepted i o start n transitions flags mask σ τ e =
     let alphabet = passed (badAlphabet i o) Alphabet _ (omega arith) e in
     let count = passed (badCount n) GivenCount _ (omega arith) (alphabet .1) in
     let later = later-accepted start G σ τ (count .1) in
-    let range = in-range true mask n i o (alphabet .0) (count .0) in
+    let range = in-range n i o (alphabet .0) (count .0) in
     let tables = later .tables in
     record {
       alphabet = alphabet .0;

@@ -6,7 +6,14 @@ ghost use Rattle.automaton.specs.Bits.{bit};
 ghost use Rattle.plays.specs.Arena.{Arena, next};
 ghost use Rattle.game.specs.inner.Game.{arenaOf, Closed, Entered};
 
-// The mode, the condition's mask, and the numbers of states, inputs and outputs.
+// The numbers of states, inputs and outputs.
+pub struct Sizes {
+    pub states: usize,
+    pub inputs: usize,
+    pub outputs: usize,
+}
+
+// A game to be solved: the mode, the condition's mask, and the numbers of states, inputs and outputs.
 pub struct Game {
     pub fair: bool,
     pub mask: u16,

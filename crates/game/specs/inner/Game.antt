@@ -7,7 +7,20 @@ use lib.ListN.{length, getD}
 use Rattle.game.specs.inner.Limits.{numberLimit}
 use Rattle.automaton.specs.Limits.{stateLimit}
 use Rattle.plays.specs.Arena.{Arena, next}
+use Rattle.game.specs.declared.arena.Sizes.{Sizes}
 use Rattle.game.specs.declared.arena.Game.{Game}
+
+-- the arena that sizes, two buffers and a mask describe
+abbrev pub arenaAt : Sizes → List ℕ → List ℕ → ℕ → Arena
+arenaAt sizes transitions accepting mask =
+    record {
+      states = sizes .states;
+      inputs = sizes .inputs;
+      outputs = sizes .outputs;
+      transitions = transitions;
+      accepting = accepting;
+      mask = mask;
+    }
 
 -- the arena that a game's numbers and two buffers describe
 abbrev pub arenaOf : Game → List ℕ → List ℕ → Arena

@@ -14,5 +14,5 @@ short-tables-spec =
     tie.close
     (tie.spec
     (λ c. search needs)
-    (λ c. let a = c .before .before .args in rw (lt-ltb (length (now (a .system))) (stateLimit * a .g .inputs) (c .if1 .taken)))
-    (λ c. let a = c .before .before .args in rw (le-ltb (length (now (a .system))) (stateLimit * a .g .inputs) (c .if1 .left))))
+    (λ c. let a = c .before .before .args in rw (lt-ltb (length (now (a .system))) (stateLimit * a .sizes .inputs) (c .if1 .taken)))
+    (λ c. let a = c .before .before .args in rw (le-ltb (length (now (a .system))) (stateLimit * a .sizes .inputs) (c .if1 .left))))

@@ -11,7 +11,7 @@ use denote.Ref.{now}
 use borrow.Author.Tests.{ltb-false}
 use Rattle.automaton.specs.Limits.{stateLimit}
 use Rattle.plays.specs.Arena.{Arena}
-use Rattle.game.specs.inner.Game.{arenaOf}
+use Rattle.game.specs.inner.Game.{arenaAt}
 use Rattle.game.specs.Given.{shortRead}
 use Rattle.game.specs.Follower.{shortStrategy}
 use Rattle.game.proofs.IndexLaws.{row-below}
@@ -20,7 +20,7 @@ use Rattle.game.proofs.follow.Position.step.Statement.{statement}
 use Rattle.game.proofs.follow.Position.step.Tie as tie
 
 abbrev G : tie.Start → Arena
-G z = arenaOf (z .args .g) (now (z .args .transitions)) (now (z .args .accepting))
+G z = arenaAt (z .args .sizes) (now (z .args .transitions)) (now (z .args .accepting)) 0
 
 -- the tests that passed, at the place where the table is read
 abbrev start-of : tie.Else4 → tie.Start
@@ -64,8 +64,8 @@ step-spec =
     let a = start-of k .args in
     omega (
       arith,
-      ltb-false (length (now (a .system))) (a .g .states * a .g .inputs) (table-no k),
-      row-below (a .g .states) (a .g .inputs) (a .self .state) (a .x) (k .before .if3 .left) (k .if4 .left),
+      ltb-false (length (now (a .system))) (a .sizes .states * a .sizes .inputs) (table-no k),
+      row-below (a .sizes .states) (a .sizes .inputs) (a .self .state) (a .x) (k .before .if3 .left) (k .if4 .left),
     ))
     (λ c κs. search needs)
     (λ c.
@@ -73,16 +73,16 @@ step-spec =
     let k = w .before .before in
     let z = start-of k in
     no-row (G z) (now (z .args .system)) (z .args .self) (z .args .x) (read-no k) (table-no k) (k .before .if3 .left) (k .if4 .left)
-    (subst (λ (v : ℕ). z .args .g .outputs ≤ v) (w .wide .ensures) (c .if5 .taken)))
+    (subst (λ (v : ℕ). z .args .sizes .outputs ≤ v) (w .wide .ensures) (c .if5 .taken)))
     (λ c κs.
     let w = c .before .before in
     let k = w .before .before in
     let z = start-of k in
-    (z .pre, (read-no k, (k .before .if3 .left, k .if4 .left, subst (λ (v : ℕ). v < z .args .g .outputs) (w .wide .ensures) (c .if5 .left)))))
+    (z .pre, (read-no k, (k .before .if3 .left, k .if4 .left, subst (λ (v : ℕ). v < z .args .sizes .outputs) (w .wide .ensures) (c .if5 .left)))))
     (λ c.
     let e = c .before in
     let w = e .before .before in
     let k = w .before .before in
     let z = start-of k in
     moved (G z) (now (z .args .system)) (z .args .self) (z .args .x) (read-no k) (table-no k) (k .before .if3 .left) (k .if4 .left)
-    (subst (λ (v : ℕ). v < z .args .g .outputs) (w .wide .ensures) (e .if5 .left)) (c .moved-by .result) (c .moved-by .ensures)))
+    (subst (λ (v : ℕ). v < z .args .sizes .outputs) (w .wide .ensures) (e .if5 .left)) (c .moved-by .result) (c .moved-by .ensures)))

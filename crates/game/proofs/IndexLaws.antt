@@ -4,7 +4,9 @@ use Prim.Native.Nat.{ℕ, suc, _+_, _*_, _<_, _≤_}
 use native.Mathlib.Nat.{mul-le-mul, mul-le-mul-left, mul-le-mul-right, mul-suc, suc-mul}
 use native.Mathlib.Omega.{arith}
 use Rattle.automaton.specs.Limits.{stateLimit}
+use Rattle.plays.specs.Arena.{Arena, next}
 use Rattle.game.specs.inner.Limits.{numberLimit, letterLimit}
+use Rattle.game.specs.inner.Game.{Valid}
 
 -- a letter's number is below the number of letters
 pub letter-below : (P Q x y : ℕ) → x < P → y < Q → x + P * y < P * Q
@@ -33,3 +35,11 @@ at-facts n P Q s x y hn hP hQ hs hx hy =
     let s′ : s ≤ stateLimit = omega arith in
     let y′ : y ≤ numberLimit = omega arith in
     record { letters = l; row = mul-le-mul s′ l; column = mul-le-mul hP y′; below = row-below n (P * Q) s (x + P * y) hs (letter-below P Q x y hx hy) }
+
+-- a transition leads to a state
+pub next-below : {G : Arena} → Valid G → (s x y : ℕ) → s < G .states → x < G .inputs → y < G .outputs → next G s x y < G .states
+unfolding next
+next-below {G} v s x y hs hx hy =
+    let m = v .moving in
+    let i = at-facts (G .states) (G .inputs) (G .outputs) s x y (m .states-fit) (m .inputs-fit) (m .outputs-fit) hs hx hy in
+    m .closed (s * (G .inputs * G .outputs) + (x + G .inputs * y)) (i .below)

@@ -3,7 +3,7 @@
 -- Assumes nothing.
 use Prim.Native.Nat.{ℕ, _+_, _*_, _/_, _%_, _^_, _<_, _≤_}
 use mathlib.Core.Path.{_≡_, refl, sym, ap, ap₂, _∙_, subst}
-use mathlib.Core.Bool.{Bool, true, false}
+use mathlib.Core.Bool.{Bool, true, false, cond, _||_}
 use mathlib.Core.List.{List}
 use mathlib.Core.Logic.{_↔_, _⊎_, ⊎-elim}
 use native.Mathlib.Nat.{mod-lt, div-add-mod', mul-le-mul-right}
@@ -15,13 +15,13 @@ use borrow.Author.Tests.{eq-eqb, ne-eqb, ltb-true, ltb-false}
 use Rattle.game.proofs.CheckLaws.{small-power}
 use Rattle.game.specs.inner.Limits.{numberLimit}
 use Rattle.reader.specs.declared.reading.Reading.{Reading}
-use Rattle.reader.specs.declared.reading.Reading.the-variants.{Good, TooLong, Bad, TooManyNodes, TooManyOperators}
 use Rattle.reader.specs.declared.refusal.Refusal.{Refusal}
-use Rattle.reader.specs.declared.refusal.Refusal.the-variants.{Nothing, Alphabet}
+use Rattle.reader.specs.declared.refusal.Refusal.the-variants.{Nothing, Alphabet, TextLength, Buffer, StateCount}
+use Rattle.reader.specs.Limits.{tooLong}
 use Rattle.reader.specs.Formula.{Formula}
 use Rattle.reader.specs.Marks.{ruleKind}
 use Rattle.reader.specs.Reading.{ReadingOf}
-use Rattle.reader.specs.Refusal.{numberOf}
+use Rattle.reader.specs.Refusal.{numberOf, afterCondition}
 use Rattle.reader.proofs.BoolLaws.{on, clash}
 use Rattle.reader.proofs.RefusalLaws.{something, refused-or-served}
 use Rattle.reader.proofs.Unambiguous.{one-formula, one-reading}
@@ -30,6 +30,7 @@ use Rattle.automaton.specs.Alphabet.{badAlphabet, letterCount}
 use Rattle.automaton.specs.Construction.{CountOf}
 use Rattle.automaton.specs.Condition.{maskOf}
 use Rattle.automaton.proofs.AlphabetLaws.{inputs-fit, outputs-fit}
+use Rattle.automaton.proofs.CountOfLaws.{one-refusal}
 use Rattle.automaton.proofs.OneAutomaton.{one-automaton, one-refused}
 use Rattle.game.specs.declared.answer.Answer.{Answer}
 use Rattle.game.specs.declared.answer.Answer.the-variants.{Refused}
@@ -41,7 +42,7 @@ use Rattle.plays.specs.Arena.{Player, Arena, arena}
 use Rattle.plays.specs.Strategy.{environmentByte, SystemWins, EnvironmentWins}
 use Rattle.game.specs.Tables.{noMove, SystemState, EnvironmentState, Tables, Verdict}
 use Rattle.game.specs.Given.{givenRefusal, GivenSolved}
-use Rattle.game.specs.Rule.{Buffers, ruleRefusal, RuleSolved}
+use Rattle.game.specs.Rule.{Buffers, shortBuffers, ruleRefusal, RuleSolved}
 use Rattle.game.specs.Follower.{FollowedBy}
 use Rattle.game.specs.Agreement.{isNoMove, Free, TableAgrees, TablesAgree, TablesAfter, GivenAgree, RuleAgree}
 use Rattle.game.proofs.AnswerLaws.{verdict-states}
@@ -197,15 +198,13 @@ one-given i o x y = given-agrees i o x y
 
 -- ---- the rule call
 
--- where a rule is not good, its number of states does not matter; where it is, it has one
-one-refusal : (i o : ℕ) (rule condition : List ℕ) (old : Buffers) (ρ κ : Reading) (n m : ℕ) → ReadingOf i (ruleKind i o) rule ρ → CountOf i o rule n → CountOf i o rule m
-    → ruleRefusal i o rule condition old ρ κ n ≡ ruleRefusal i o rule condition old ρ κ m
-unfolding ReadingOf ruleRefusal
-one-refusal i o rule condition old (Good k) κ n m r c d = ap (ruleRefusal i o rule condition old (Good k) κ) (c (r .0) (r .1) ∙ sym (d (r .0) (r .1)))
-one-refusal i o rule condition old TooLong κ n m r c d = refl
-one-refusal i o rule condition old (Bad k) κ n m r c d = refl
-one-refusal i o rule condition old TooManyNodes κ n m r c d = refl
-one-refusal i o rule condition old TooManyOperators κ n m r c d = refl
+-- the rule's number of states does not matter
+one-count : (i o : ℕ) (rule condition : List ℕ) (old : Buffers) (ρ κ : Reading) (n m : ℕ) → ReadingOf i (ruleKind i o) rule ρ
+    → CountOf i o rule n → CountOf i o rule m → ruleRefusal i o rule condition old ρ κ n ≡ ruleRefusal i o rule condition old ρ κ m
+unfolding ruleRefusal
+one-count i o rule condition old ρ κ n m r c d =
+    ap (λ (x : Refusal). cond (badAlphabet i o) Alphabet (cond (tooLong rule || tooLong condition) TextLength (cond (shortBuffers i o old) Buffer x)))
+    (one-refusal i o rule (λ k. afterCondition κ (cond (ltb stateLimit k) StateCount Nothing)) ρ n m r c d)
 
 module _ {mode : Mode} {i o : ℕ} {rule condition : List ℕ} {old new new′ : Buffers} {r r′ : Answer}
     (x : RuleSolved mode i o rule condition old new r) (y : RuleSolved mode i o rule condition old new′ r′) where
@@ -215,7 +214,7 @@ module _ {mode : Mode} {i o : ℕ} {rule condition : List ℕ} {old new new′ :
       let κ = one-reading i 0 false condition (x .condition-read) (y .condition-read) in
       x .first
       ∙ ap₂ (λ (p q : Reading). ruleRefusal i o rule condition old p q (x .states)) ρ κ
-      ∙ one-refusal i o rule condition old (y .reading) (y .condition-reading) (x .states) (y .states) (y .read) (x .counted) (y .counted)
+      ∙ one-count i o rule condition old (y .reading) (y .condition-reading) (x .states) (y .states) (y .read) (x .counted) (y .counted)
       ∙ sym (y .first)
 
   -- the automaton's two buffers, served or refused

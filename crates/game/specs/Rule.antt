@@ -24,9 +24,9 @@ use Rattle.game.specs.declared.answer.Answer.{Answer}
 use Rattle.game.specs.declared.answer.Answer.the-variants.{Refused}
 use Rattle.game.specs.Answer.{answerNumber, answerPlace, verdictOf}
 use Rattle.plays.specs.declared.mode.Mode.{Mode}
-use Rattle.plays.specs.Arena.{Arena, arena}
+use Rattle.plays.specs.Arena.{Input, Arena, arena}
 use Rattle.plays.specs.Play.{Step, run, letters, Along}
-use Rattle.plays.specs.Strategy.{systemByte, environmentByte, BySystem, ByEnvironment, Assumed, Failed}
+use Rattle.plays.specs.Strategy.{Table, systemByte, environmentByte, BySystem, ByEnvironment, Assumed, Failed}
 use Rattle.game.specs.Tables.{Tables, Verdict}
 
 -- a beginning of the play, its first k steps for a k from 1 to its length, satisfies the rule
@@ -35,13 +35,13 @@ Satisfied φ G p = (k : ℕ) × (0 < k) × (k ≤ length p) × Satisfies φ (tak
 
 -- "can": every play from the start that follows the system's strategy has a beginning that satisfies the rule, where the condition has come often enough,
 -- and until then comes to no byte that is no output
-pub record Can (mode : Mode) (φ : Formula) (G : Arena) (σ : List ℕ) : Type 0 where
+pub record Can (mode : Mode) (φ : Formula) (G : Arena) (σ : Table) : Type 0 where
   pub satisfying : (p : List Step) → Along G (BySystem G σ) 0 p → Assumed mode G p → Satisfied φ G p
-  pub answers : (p : List Step) → Along G (BySystem G σ) 0 p → (Satisfied φ G p → ⊥) → (x : ℕ) → x < G .inputs → systemByte G σ (run G 0 p) x < G .outputs
+  pub answers : (p : List Step) → Along G (BySystem G σ) 0 p → (Satisfied φ G p → ⊥) → (x : Input) → x < G .inputs → systemByte G σ (run G 0 p) x < G .outputs
 
 -- "cannot": no play from the start that follows the environment's strategy has a beginning that satisfies the rule, fails the assumption,
 -- or comes to a byte that is no input
-pub record Cannot (mode : Mode) (φ : Formula) (G : Arena) (τ : List ℕ) : Type 0 where
+pub record Cannot (mode : Mode) (φ : Formula) (G : Arena) (τ : Table) : Type 0 where
   pub avoiding : (p : List Step) → Along G (ByEnvironment G τ) 0 p → Satisfied φ G p → ⊥
   pub keeping : (p : List Step) → Along G (ByEnvironment G τ) 0 p → Failed mode G p → ⊥
   pub answers : (p : List Step) → Along G (ByEnvironment G τ) 0 p → environmentByte τ (run G 0 p) < G .inputs
@@ -50,19 +50,20 @@ pub record Cannot (mode : Mode) (φ : Formula) (G : Arena) (τ : List ℕ) : Typ
 pub record Buffers : Type 0 where
   pub transitions : List ℕ
   pub accepting : List ℕ
-  pub system : List ℕ
-  pub environment : List ℕ
+  pub system : Table
+  pub environment : Table
 
-abbrev pub buffers : List ℕ → List ℕ → List ℕ → List ℕ → Buffers
+abbrev pub buffers : (t a : List ℕ) (σ τ : Table) → Buffers
 buffers t a σ τ = record { transitions = t; accepting = a; system = σ; environment = τ }
 
 -- refusal 3: a buffer is too short for 128 states
 abbrev pub shortBuffers : ℕ → ℕ → Buffers → Bool
 shortBuffers i o old =
-    shortAutomaton (letterCount i o) (old .transitions) (old .accepting) || (ltb (length (old .system)) (stateLimit * 2 ^ i) || ltb (length (old .environment)) stateLimit)
+    shortAutomaton (letterCount i o) (old .transitions) (old .accepting)
+    || (ltb (length (old .system)) (stateLimit * 2 ^ i) || ltb (length (old .environment)) stateLimit)
 
 -- the refusal that comes first, for texts with the readings ρ and κ and a rule with n states
-unfoldable pub ruleRefusal : ℕ → ℕ → List ℕ → List ℕ → Buffers → Reading → Reading → ℕ → Refusal
+unfoldable pub ruleRefusal : (i o : ℕ) (rule condition : List ℕ) (old : Buffers) (ρ κ : Reading) (n : ℕ) → Refusal
 ruleRefusal i o rule condition old ρ κ n =
     cond (badAlphabet i o) Alphabet
     (cond (tooLong rule || tooLong condition) TextLength

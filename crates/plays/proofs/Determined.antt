@@ -1,5 +1,5 @@
--- No state is won by a table of the system's and by one of the environment's, whatever the two tables (lists of bytes, that is positional strategies): so the arena
--- and the mode determine a verdict, and a state's winner, that comes with its table.
+-- No state is won by a table of the system's and by one of the environment's, whatever the two tables (lists of bytes, that is positional strategies):
+-- so the arena and the mode determine a verdict, and a state's winner, that comes with its table.
 -- A play that follows both strategies for n times n steps falls into n stretches of n steps. If the environment keeps its assumption, the system's
 -- is met on it, so that it reaches a goal, which the environment avoids.
 -- Assumes nothing.

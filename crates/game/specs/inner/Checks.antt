@@ -12,7 +12,7 @@ abbrev pub sizesOf : ℕ → ℕ → ℕ → Sizes
 sizesOf n i o = record { states = n; inputs = 2 ^ i; outputs = 2 ^ o }
 
 -- the game of n states, i inputs and o outputs
-abbrev pub gameOf : Bool → ℕ → ℕ → ℕ → ℕ → Game
+abbrev pub gameOf : (fair : Bool) (mask n i o : ℕ) → Game
 gameOf fair mask n i o = record { fair = fair; mask = mask; states = n; inputs = 2 ^ i; outputs = 2 ^ o }
 
 -- sizes in range

@@ -11,7 +11,7 @@ use Rattle.game.specs.declared.arena.Sizes.{Sizes}
 use Rattle.game.specs.declared.arena.Game.{Game}
 
 -- the arena that sizes, two buffers and a mask describe
-abbrev pub arenaAt : Sizes → List ℕ → List ℕ → ℕ → Arena
+abbrev pub arenaAt : (sizes : Sizes) (transitions accepting : List ℕ) (mask : ℕ) → Arena
 arenaAt sizes transitions accepting mask =
     record {
       states = sizes .states;

@@ -6,8 +6,7 @@ use mathlib.Core.Bool.{Bool, true, false}
 use mathlib.Core.List.{List}
 use mathlib.Core.Logic.{⊎-elim}
 use native.Mathlib.Omega.{arith}
-use lib.ListN.{length, take}
-use Rattle.reader.specs.declared.refusal.Refusal.{Refusal}
+use lib.ListN.{take}
 use Rattle.reader.specs.Formula.{Formula}
 use Rattle.reader.proofs.RefusalLaws.{something, refused-or-served}
 use Rattle.automaton.specs.Trace.{Satisfies}
@@ -20,7 +19,7 @@ use Rattle.plays.specs.Arena.{Arena}
 use Rattle.plays.specs.Play.{Step, Legal, letters, Along}
 use Rattle.plays.specs.Strategy.{BySystem, ByEnvironment}
 use Rattle.game.specs.Tables.{Verdict}
-use Rattle.game.specs.Given.{Solved, GivenSolved}
+use Rattle.game.specs.Given.{GivenSolved}
 use Rattle.game.specs.Rule.{Buffers, Satisfied, RuleServed, RuleSolved}
 use Rattle.plays.specs.Way.{bySystem, byEnvironment, ordered, meet}
 use Rattle.plays.specs.Endless.{first, Follows, Kept, CanEndless, Defeated, CannotEndless, Reaching}

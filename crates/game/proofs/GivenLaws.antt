@@ -1,6 +1,6 @@
 -- The refusals of the call for a given automaton: which test decides, and what is known where none does.
 -- Assumes nothing.
-use Prim.Native.Nat.{ℕ, _+_, _*_, _<_, _≤_}
+use Prim.Native.Nat.{ℕ, _*_, _<_, _≤_}
 use mathlib.Core.Path.{_≡_, refl, sym, ap, _∙_, subst}
 use mathlib.Core.Bool.{Bool, true, false, cond, _||_}
 use mathlib.Core.List.{List}
@@ -23,7 +23,7 @@ use Rattle.plays.specs.Arena.{Arena, arena}
 use Rattle.game.specs.inner.Game.{Valid}
 use Rattle.game.specs.Tables.{Tables, Verdict}
 use Rattle.game.specs.Given.{badCount, moveCount, shortRead, shortTables, badMask, laterRefusal, givenRefusal, Solved}
-use Rattle.reader.proofs.BoolLaws.{on, or-left, or-right}
+use Rattle.reader.proofs.BoolLaws.{or-left, or-right}
 use Rattle.game.proofs.AnswerLaws.{verdict-number, verdict-place}
 use Rattle.game.proofs.CheckLaws.{in-range, transitions-long, accepting-long}
 

@@ -1,6 +1,6 @@
 -- Laws of indices into transitions and tables.
 -- Assumes nothing.
-use Prim.Native.Nat.{ℕ, suc, _+_, _*_, _<_, _≤_}
+use Prim.Native.Nat.{ℕ, _+_, _*_, _<_, _≤_}
 use native.Mathlib.Nat.{mul-le-mul, mul-le-mul-left, mul-le-mul-right, mul-suc, suc-mul}
 use native.Mathlib.Omega.{arith}
 use Rattle.automaton.specs.Limits.{stateLimit}

@@ -1,7 +1,7 @@
 -- The follower (specification, "Calls"): one step of the system's strategy from a position, which is a state and whether a goal was entered.
 -- Its answer is the declared type `Followed`; its order is 1, 10, 3, 12, 13, "no row", 11.
 -- Assumes nothing.
-use Prim.Native.Nat.{ℕ, _+_, _*_}
+use Prim.Native.Nat.{ℕ, _*_}
 use mathlib.Core.Path.{_≡_}
 use mathlib.Core.Bool.{Bool, cond, _||_}
 use lib.Dec.{ltb, leb}

@@ -1,7 +1,7 @@
 -- The call for a given automaton (specification, "Calls" and "Refusals").
 -- Its answer is the declared type `Answer`; its order of refusals is 1, 10, 3, 12, 11, 13.
 -- Assumes nothing.
-use Prim.Native.Nat.{ℕ, _+_, _*_, _/_, _^_}
+use Prim.Native.Nat.{ℕ, _*_, _/_, _^_}
 use mathlib.Core.Path.{_≡_}
 use mathlib.Core.Bool.{Bool, not, cond, _||_}
 use lib.Dec.{eqb, ltb, leb}

@@ -1,6 +1,6 @@
 -- `game::arena::enters` meets its contract: the index is below the number of transitions, and each is a state.
 -- Assumes nothing.
-use mathlib.Core.Path.{subst, sym, _∙_}
+use mathlib.Core.Path.{subst, sym}
 use Prim.Native.Nat.{ℕ, _<_}
 use native.Mathlib.Omega.{arith}
 use borrow.Author.Needs.{needs}

@@ -1,8 +1,7 @@
 -- `game::rule::check_texts` meets its contract: the rule's refusal, the condition's, or none and the mask.
 -- Assumes nothing.
 use borrow.Author.Needs.{needs}
-use mathlib.Core.Path.{_≡_, sym, _∙_, subst}
-use Prim.Native.Nat.{ℕ}
+use mathlib.Core.Path.{subst}
 use native.Mathlib.Omega.{arith}
 use denote.Ref.{now}
 use Rattle.reader.specs.declared.reading.Reading.{Reading}

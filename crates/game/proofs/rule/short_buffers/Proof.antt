@@ -2,7 +2,7 @@
 -- Assumes nothing.
 use borrow.Author.Needs.{needs}
 use mathlib.Core.Path.{_≡_}
-use Prim.Native.Nat.{ℕ, _^_, _≤_}
+use Prim.Native.Nat.{_^_, _≤_}
 use native.Mathlib.Omega.{arith}
 use denote.Ref.{now}
 use Rattle.game.proofs.CheckLaws.{small-power}

@@ -1,10 +1,10 @@
 -- `game::rule::solve_rule` meets its contract: a refusal before the automaton, 9, or the tables and the verdict of the game on the automaton.
 -- Assumes nothing.
 use borrow.Author.Needs.{needs}
-use mathlib.Core.Path.{_≡_, refl, sym, _∙_, subst, subst₂}
+use mathlib.Core.Path.{_≡_, refl, sym, subst, subst₂}
 use mathlib.Core.List.{List}
 use mathlib.Core.Bool.{Bool, true, false}
-use Prim.Native.Nat.{ℕ, _*_, _^_, _<_, _≤_}
+use Prim.Native.Nat.{ℕ, _*_, _<_, _≤_}
 use lib.ListN.{length}
 use denote.Ref.{now}
 use Rattle.automaton.specs.Limits.{stateLimit}

@@ -2,7 +2,7 @@
 -- Assumes nothing.
 use borrow.Author.Needs.{needs}
 use mathlib.Core.Path.{_≡_, sym, _∙_, subst}
-use mathlib.Core.Bool.{true, false}
+use mathlib.Core.Bool.{false}
 use denote.Ref.{now}
 use Rattle.automaton.specs.Alphabet.{badAlphabet}
 use Rattle.reader.specs.declared.refusal.Refusal.the-variants.{Alphabet, GivenCount}

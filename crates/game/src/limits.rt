@@ -1,4 +1,4 @@
-// The limits of the game; specs/inner/Limits.antt has the same ones for the contracts. The first three are the automaton's.
+// The limits of the game. specs/inner/Limits.antt has the same ones for the contracts.
 
 // States at most.
 pub const STATE_LIMIT: usize = 128;

@@ -1,9 +1,9 @@
 -- The play that a way, with any memory, makes with a strategy that wins: it follows the strategy, up to a goal where the strategy is the system's, and it is
 -- the only one. So winning from a state says of plays without end what specs/Endless.antt states.
 -- Assumes nothing.
-use Prim.Native.Nat.{ℕ, zero, suc}
+use Prim.Native.Nat.{ℕ, zero, suc, _≤_, _<_}
 use mathlib.Core.Path.{_≡_, refl, sym, ap, _∙_, subst}
-use mathlib.Core.Bool.{true, false}
+use mathlib.Core.Bool.{Bool, true, false}
 use mathlib.Core.List.{List, [], _∷_}
 use mathlib.Core.Logic.{_⊎_, ⊎-elim}
 use lib.ListN.{length}
@@ -11,7 +11,7 @@ use Rattle.plays.specs.declared.mode.Mode.{Mode}
 use Rattle.plays.specs.declared.mode.Mode.the-variants.{Fair, Stable}
 use Rattle.plays.specs.Arena.{Arena, goal, holds}
 use Rattle.plays.specs.Play.{Step, entered, run, reaches, Along}
-use Rattle.plays.specs.Strategy.{environmentByte, BySystem, ByEnvironment, SystemWins, EnvironmentWins}
+use Rattle.plays.specs.Strategy.{systemByte, environmentByte, BySystem, ByEnvironment, SystemWins, EnvironmentWins}
 use Rattle.plays.specs.Way.{SystemWay, EnvironmentWay, Outputs, Inputs, bySystem, byEnvironment, ordered, meeting, systemAfter}
 use Rattle.plays.specs.Way.{environmentAfter, meet, Chosen}
 use Rattle.plays.specs.Endless.{first, inputs, Follows, Promised, Reaching, Kept, CanEndless, Defeated, CannotEndless}

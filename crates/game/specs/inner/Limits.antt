@@ -1,4 +1,4 @@
--- The limits that contracts of private functions name, beside the limit on states. The first three are the automaton's.
+-- The limits that contracts of private functions name, beside the limit on states.
 -- Assumes nothing.
 use Prim.Native.Nat.{ℕ, suc, _*_, _^_}
 use Rattle.automaton.specs.Limits.{stateLimit}

@@ -1,4 +1,4 @@
-//! README: the definitions that a reader has to believe stand in crates/*/specs, and those that only the private
+//! The definitions that a reader has to believe stand in crates/*/specs, and those that only the private
 //! functions and the proofs use in specs/inner. No believed file uses an inner one, and every file is in the list
 //! of its folder.
 

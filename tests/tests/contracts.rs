@@ -1,4 +1,4 @@
-//! README: what is asked of every call that can be reached from outside: a contract that says something
+//! What is asked of every call that can be reached from outside: a contract that says something
 //! of its result, on every input. Read off the sources of the crates.
 //!
 //! A public function has a row in `PROMISES`, and each of its `ensures` clauses is one promise, applied

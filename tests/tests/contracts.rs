@@ -21,7 +21,7 @@ const PROMISES: &[Row] = &[
     ("reader::refusal::number_of", &["numberOf"]),
     ("reader::refusal::place_of", &["placeOf"]),
     ("automaton::alphabet::bad_alphabet", &["badAlphabet"]),
-    ("automaton::alphabet::power", &["cond (ltb k 9) (2 ^ k) 0"]),
+    ("automaton::alphabet::power", &["cond (leb k (2 * nameLimit)) (2 ^ k) 0"]),
     ("automaton::alphabet::first_over", &["firstOver"]),
     ("automaton::construct::construct", &["Constructed"]),
     ("automaton::condition::read_condition", &["Conditioned"]),

@@ -4,10 +4,11 @@ use Prim.Native.Nat.{ℕ, _+_, _*_, _^_, _<_}
 use mathlib.Core.Bool.{Bool, _||_}
 use mathlib.Core.List.{List, [], _∷_}
 use lib.Dec.{ltb}
+use Rattle.automaton.specs.Limits.{nameLimit}
 
--- refusal 1: more than 4 inputs or outputs
+-- refusal 1: more inputs or outputs than the limit
 abbrev pub badAlphabet : ℕ → ℕ → Bool
-badAlphabet i o = ltb 4 i || ltb 4 o
+badAlphabet i o = ltb nameLimit i || ltb nameLimit o
 
 -- the number L of letters
 abbrev pub letterCount : ℕ → ℕ → ℕ

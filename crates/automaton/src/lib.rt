@@ -7,6 +7,7 @@ mod coordinates;
 mod evaluate;
 mod explore;
 mod fold;
+pub mod limits;
 mod mask;
 mod operators;
 mod tabulate;

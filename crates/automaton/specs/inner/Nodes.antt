@@ -1,4 +1,4 @@
--- The nodes of a formula as the functions below the calls read them: what a node stands for, its value for 64 valuations at once,
+-- The nodes of a formula as the functions below the calls read them: what a node stands for, its value for all valuations at once,
 -- and which node a coordinate belongs to. The words themselves are those of the reader's specs/inner/Nodes.antt.
 -- Assumes nothing.
 use Prim.Native.Nat.{ℕ, zero, suc, _+_, _-_, _/_, _%_, _≤_, _<_}
@@ -10,6 +10,7 @@ use lib.Dec.{eqb, leb}
 use lib.ListN.{getD}
 use Rattle.reader.specs.Formula.{Unary, Binary, Formula, constant, name, unary, binary, size, withUnary, withBinary, operators}
 use Rattle.reader.specs.inner.Nodes.{constantCode, nameCode, unaryCode, binaryCode, wordOf}
+use Rattle.automaton.specs.Limits.{vectorLimit}
 use Rattle.automaton.specs.Bits.{bit, one, ofBits}
 use Rattle.automaton.specs.Valuation.{value, present}
 
@@ -32,32 +33,32 @@ pub data Node (nodes : List ℕ) : ℕ → ℕ → Formula → Type 0 where
 
 -- ---- values
 
--- all 64 bits
+-- the set of all valuations
 abbrev pub allBits : ℕ
 allBits = 0xFFFF_FFFF_FFFF_FFFF
 
--- a node's value for each of the 64 valuations, from those of its operands
+-- a node's value for each of the valuations, from those of its operands
 unfoldable pub nodeWord : ℕ → ℕ → ℕ → ℕ → ℕ → ℕ
 unfolding ofBits bit
 nodeWord kind argument a left right =
     cond (eqb kind 0) 0
     (cond (eqb kind 1) allBits
-    (cond (eqb kind 2) (ofBits (λ v. bit a argument) 64)
+    (cond (eqb kind 2) (ofBits (λ v. bit a argument) vectorLimit)
     (cond (eqb kind 3) (bitXor right allBits)
-    (cond (eqb kind 4) (ofBits (λ v. bit v argument) 64)
-    (cond (eqb kind 5) (ofBits (λ v. bit v argument) 64)
-    (cond (eqb kind 6) (bitOr right (ofBits (λ v. bit v argument) 64))
-    (cond (eqb kind 7) (bitAnd right (ofBits (λ v. bit v argument) 64))
-    (cond (eqb kind 8) (bitOr right (bitAnd left (ofBits (λ v. bit v argument) 64)))
-    (cond (eqb kind 9) (bitAnd right (bitOr left (ofBits (λ v. bit v argument) 64)))
+    (cond (eqb kind 4) (ofBits (λ v. bit v argument) vectorLimit)
+    (cond (eqb kind 5) (ofBits (λ v. bit v argument) vectorLimit)
+    (cond (eqb kind 6) (bitOr right (ofBits (λ v. bit v argument) vectorLimit))
+    (cond (eqb kind 7) (bitAnd right (ofBits (λ v. bit v argument) vectorLimit))
+    (cond (eqb kind 8) (bitOr right (bitAnd left (ofBits (λ v. bit v argument) vectorLimit)))
+    (cond (eqb kind 9) (bitAnd right (bitOr left (ofBits (λ v. bit v argument) vectorLimit)))
     (cond (eqb kind 10) (bitAnd left right)
     (cond (eqb kind 11) (bitOr left right)
     (bitOr (bitXor left allBits) right))))))))))))
 
--- for each node below m that stands for a formula, the words hold the formula's value for each of the 64 valuations
+-- for each node below m that stands for a formula, the words hold the formula's value for each of the valuations
 unfoldable pub Evaluated : List ℕ → ℕ → List ℕ → ℕ → Type 0
 unfolding ofBits value
-Evaluated nodes a words m = (i : ℕ) → i < m → (k : ℕ) (φ : Formula) → Node nodes i k φ → getD words i 0 ≡ ofBits (λ v. value φ k a v) 64
+Evaluated nodes a words m = (i : ℕ) → i < m → (k : ℕ) (φ : Formula) → Node nodes i k φ → getD words i 0 ≡ ofBits (λ v. value φ k a v) vectorLimit
 
 -- ---- coordinates
 
@@ -75,10 +76,14 @@ unfolding isTemporalNode
 operatorsIn nodes zero = 0
 operatorsIn nodes (suc m) = one (isTemporalNode (getD nodes m 0)) + operatorsIn nodes m
 
+-- the places of operators by their coordinates: a power of 2 above coordinateLimit
+abbrev pub placeCount : ℕ
+placeCount = 8
+
 -- the coordinate of a temporal operator's node, and 0, which no operator has, of any other
 unfoldable pub coordinateOf : ℕ → ℕ
 unfolding isTemporalNode
-coordinateOf w = cond (isTemporalNode w) (argumentOf w % 8) 0
+coordinateOf w = cond (isTemporalNode w) (argumentOf w % placeCount) 0
 
 -- places[j] is the last node below m that has the coordinate j, if one has
 unfoldable pub Located : List ℕ → ℕ → List ℕ → Type 0
@@ -106,7 +111,7 @@ unfolding endOf
 endBit nodes places zero = false
 endBit nodes places (suc j) = endOf (nodeKind (getD nodes (getD places (suc j) 0) 0))
 
--- the words of the coordinates make from each of the 64 valuations the one that letter a makes from it: its coordinate j is bit v of word j
+-- the words of the coordinates make from each of the valuations the one that letter a makes from it: its coordinate j is bit v of word j
 unfoldable pub Makes : Formula → ℕ → List ℕ → Type 0
 unfolding ofBits bit present
-Makes φ a words = (v : ℕ) → v < 64 → ofBits (λ j. bit (getD words j 0) v) (suc (operators φ)) ≡ present φ a v
+Makes φ a words = (v : ℕ) → v < vectorLimit → ofBits (λ j. bit (getD words j 0) v) (suc (operators φ)) ≡ present φ a v

@@ -16,7 +16,9 @@ use Rattle.automaton.specs.Limits.{coordinateLimit, vectorLimit}
 use Rattle.automaton.specs.Bits.{bit, ofBits, gather}
 use Rattle.automaton.specs.Valuation.{value, coords, ends, present, endVector}
 use Rattle.automaton.specs.inner.Representation.{Represents}
-use Rattle.automaton.specs.inner.Nodes.{Node, at-constant, at-name, at-unary, at-binary, nodeKind, Evaluated, temporalKind, placeCount, coordinateOf, Located, ownerOf, owner, endOf, endBit, Makes}
+use Rattle.automaton.specs.inner.Nodes.{Node, at-constant, at-name, at-unary, at-binary, nodeKind}
+use Rattle.automaton.specs.inner.Evaluation.{Evaluated}
+use Rattle.automaton.specs.inner.Coordinates.{temporalKind, placeCount, coordinateOf, Located, ownerOf, owner, endOf, endBit, Makes}
 use Rattle.automaton.proofs.BitLaws.{ofBits-lt, ofBits-ext}
 use Rattle.reader.proofs.NodeLaws.{size-pos}
 use Rattle.automaton.proofs.ValuationLaws.{coords-length, ends-length}

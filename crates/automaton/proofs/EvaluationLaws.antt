@@ -16,7 +16,8 @@ use Rattle.reader.specs.inner.Nodes.{constantCode, unaryCode, binaryCode, wordO
 use Rattle.automaton.specs.Limits.{vectorLimit}
 use Rattle.automaton.specs.Bits.{bit, ofBits}
 use Rattle.automaton.specs.Valuation.{value}
-use Rattle.automaton.specs.inner.Nodes.{Node, at-constant, at-name, at-unary, at-binary, nodeKind, leftOf, argumentOf, allBits, nodeWord, Evaluated}
+use Rattle.automaton.specs.inner.Nodes.{Node, at-constant, at-name, at-unary, at-binary, nodeKind, leftOf, argumentOf}
+use Rattle.automaton.specs.inner.Evaluation.{allValuations, nodeWord, Evaluated}
 use Rattle.automaton.proofs.BitLaws.{ofBits-and, ofBits-or, ofBits-not, same-true, same-false, bit-ofBits}
 use Rattle.automaton.proofs.NodeLaws.{kind-field, left-field, argument-field, binary-small}
 
@@ -24,7 +25,7 @@ use Rattle.automaton.proofs.NodeLaws.{kind-field, left-field, argument-
 abbrev setOf : (ℕ → Bool) → ℕ
 setOf f = ofBits f vectorLimit
 
-not-set : (x : ℕ) (f : ℕ → Bool) → x ≡ setOf f → bitXor x allBits ≡ setOf (λ v. not (f v))
+not-set : (x : ℕ) (f : ℕ → Bool) → x ≡ setOf f → bitXor x allValuations ≡ setOf (λ v. not (f v))
 not-set x f e = ap₂ bitXor e (same-true true refl) ∙ ofBits-not f vectorLimit
 
 and-sets : (x y : ℕ) (f g : ℕ → Bool) → x ≡ setOf f → y ≡ setOf g → bitAnd x y ≡ setOf (λ v. f v && g v)
@@ -89,7 +90,7 @@ module _ (nodes : List ℕ) (a : ℕ) (ws : List ℕ) where
   binary-given i k j conj φ ψ h e L R = fields i 10 j (k + operators φ) (omega arith) h e (and-sets (leftAt i) (rightAt i) (λ v. value φ k a v) (λ v. value ψ (k + operators φ) a v) L R)
   binary-given i k j disj φ ψ h e L R = fields i 11 j (k + operators φ) (omega arith) h e (or-sets (leftAt i) (rightAt i) (λ v. value φ k a v) (λ v. value ψ (k + operators φ) a v) L R)
   binary-given i k j impl φ ψ h e L R =
-      fields i 12 j (k + operators φ) (omega arith) h e (or-sets (bitXor (leftAt i) allBits) (rightAt i) (λ v. not (value φ k a v)) (λ v. value ψ (k + operators φ) a v) (not-set (leftAt i) (λ v. value φ k a v) L) R)
+      fields i 12 j (k + operators φ) (omega arith) h e (or-sets (bitXor (leftAt i) allValuations) (rightAt i) (λ v. not (value φ k a v)) (λ v. value ψ (k + operators φ) a v) (not-set (leftAt i) (λ v. value φ k a v) L) R)
 
   node-given : (i k : ℕ) (φ : Formula) → i < nodeLimit → Evaluated nodes a ws i → Node nodes i k φ → given i ≡ setOf (λ v. value φ k a v)
   unfolding nodeWord value

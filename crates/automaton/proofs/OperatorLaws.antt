@@ -15,7 +15,8 @@ use Rattle.reader.specs.Formula.{Unary, Binary, Formula, constant, name, unary,
 use Rattle.reader.specs.inner.Nodes.{constantCode, nameCode, unaryCode, binaryCode, wordOf}
 use Rattle.automaton.specs.Bits.{one}
 use Rattle.automaton.specs.inner.Representation.{Represents}
-use Rattle.automaton.specs.inner.Nodes.{Node, at-constant, at-name, at-unary, at-binary, nodeKind, argumentOf, temporalKind, isTemporalNode, operatorsIn, placeCount, coordinateOf, Located}
+use Rattle.automaton.specs.inner.Nodes.{Node, at-constant, at-name, at-unary, at-binary, nodeKind, argumentOf}
+use Rattle.automaton.specs.inner.Coordinates.{temporalKind, isTemporalNode, operatorsIn, placeCount, coordinateOf, Located}
 use Rattle.reader.proofs.NodeLaws.{size-pos}
 use Rattle.automaton.proofs.NodeLaws.{kind-field, argument-field, unary-small, binary-small, root-node}
 

@@ -5,7 +5,7 @@ ghost use lib.ListN.{getD};
 ghost use Rattle.reader.specs.Limits.{nodeLimit};
 ghost use Rattle.automaton.specs.Limits.{vectorLimit};
 ghost use Rattle.automaton.specs.Bits.{bit, ofBits};
-ghost use Rattle.automaton.specs.inner.Nodes.{nodeWord, Evaluated};
+ghost use Rattle.automaton.specs.inner.Evaluation.{nodeWord, Evaluated};
 use crate::bits::WORD_BITS;
 use crate::bits::test_bit;
 use crate::coordinates::coordinate;

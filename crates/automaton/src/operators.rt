@@ -5,7 +5,7 @@ ghost use Rattle.reader.specs.Limits.{nodeLimit};
 ghost use Rattle.reader.specs.Formula.{Formula, operators};
 ghost use Rattle.automaton.specs.Bits.{one};
 ghost use Rattle.automaton.specs.inner.Representation.{Represents};
-ghost use Rattle.automaton.specs.inner.Nodes.{isTemporalNode, coordinateOf, Located, placeCount};
+ghost use Rattle.automaton.specs.inner.Coordinates.{isTemporalNode, coordinateOf, Located, placeCount};
 use crate::limits::NODE_LIMIT;
 use crate::limits::PLACE_COUNT;
 

@@ -7,7 +7,7 @@ ghost use Rattle.reader.specs.Formula.{Formula, operators};
 ghost use Rattle.automaton.specs.Limits.{letterLimit, coordinateLimit, pairLimit};
 ghost use Rattle.automaton.specs.Bits.{bit, ofBits};
 ghost use Rattle.automaton.specs.inner.Representation.{Represents, Tabulates};
-ghost use Rattle.automaton.specs.inner.Nodes.{Located};
+ghost use Rattle.automaton.specs.inner.Coordinates.{Located};
 use crate::limits::COORDINATE_LIMIT;
 use crate::limits::NODE_LIMIT;
 use crate::limits::PAIR_LIMIT;

@@ -8,7 +8,7 @@ ghost use Rattle.automaton.specs.Limits.{coordinateLimit, vectorLimit};
 ghost use Rattle.automaton.specs.Bits.{bit, one, ofBits};
 ghost use Rattle.automaton.specs.Valuation.{value, present, endVector};
 ghost use Rattle.automaton.specs.inner.Representation.{Represents};
-ghost use Rattle.automaton.specs.inner.Nodes.{Located, ownerOf, owner, endOf, endBit, Makes};
+ghost use Rattle.automaton.specs.inner.Coordinates.{Located, ownerOf, owner, endOf, endBit, Makes};
 use crate::bits::set_bit;
 use crate::bits::test_bit;
 use crate::evaluate::evaluate;

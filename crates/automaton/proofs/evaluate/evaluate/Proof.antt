@@ -1,6 +1,6 @@
 -- `automaton::evaluate::evaluate` meets its contract. The invariant: the nodes below i have their words. The measure is what is left of the nodes. Assumes nothing.
 use Rattle.reader.specs.Limits.{nodeLimit}
-use Rattle.automaton.specs.inner.Nodes.{Evaluated}
+use Rattle.automaton.specs.inner.Evaluation.{Evaluated}
 use native.Mathlib.Omega.{arith}
 use mathlib.Core.Path.{_≡_, refl, ap, _∙_}
 use Prim.Native.Nat.{ℕ, _-_, _≤_}

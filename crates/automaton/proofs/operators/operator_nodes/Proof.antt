@@ -4,7 +4,7 @@ use native.Mathlib.Numerals.{add-one}
 use mathlib.Core.Path.{_≡_, refl}
 use Prim.Native.Nat.{_-_, _≤_}
 use lib.ListN.{length, length-set}
-use Rattle.automaton.specs.inner.Nodes.{placeCount, Located}
+use Rattle.automaton.specs.inner.Coordinates.{placeCount, Located}
 use Rattle.automaton.proofs.OperatorLaws.{located-none, located-more}
 use borrow.Author.Needs.{needs}
 use Rattle.automaton.proofs.operators.operator_nodes.Statement.{statement}

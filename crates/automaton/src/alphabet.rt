@@ -4,8 +4,7 @@ ghost use mathlib.Core.Bool.{cond};
 ghost use Prim.Native.Nat.{_*_, _^_};
 ghost use lib.Dec.{leb};
 ghost use Rattle.automaton.specs.Limits.{nameLimit};
-ghost use Rattle.automaton.specs.Alphabet.{badAlphabet};
-ghost use Rattle.automaton.specs.Trial.{firstOver};
+ghost use Rattle.automaton.specs.Alphabet.{badAlphabet, firstOver};
 use crate::limits::NAME_LIMIT;
 
 // Whether i or o is above NAME_LIMIT.

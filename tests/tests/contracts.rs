@@ -23,6 +23,7 @@ const PROMISES: &[Row] = &[
     ("automaton::alphabet::bad_alphabet", &["badAlphabet"]),
     ("automaton::alphabet::power", &["cond (leb k (2 * nameLimit)) (2 ^ k) 0"]),
     ("automaton::alphabet::first_over", &["firstOver"]),
+    ("automaton::bytes::wide", &["b"]),
     ("automaton::construct::construct", &["Constructed"]),
     ("automaton::condition::read_condition", &["Conditioned"]),
     ("automaton::trial::try_rule", &["Tried"]),

@@ -5,6 +5,7 @@ ghost use Prim.Native.Nat.{_≤_, _<_};
 ghost use lib.ListN.{length};
 ghost use Rattle.automaton.specs.Limits.{letterLimit, pairLimit};
 ghost use Rattle.automaton.specs.inner.Representation.{SameRow, slotCount, Twins};
+use crate::bytes::wide;
 use crate::limits::LETTER_LIMIT;
 use crate::limits::PAIR_LIMIT;
 use crate::limits::TABLE_SIZE;
@@ -18,13 +19,6 @@ const SLOTS: usize = 1021;
 
 // What is kept of a key, so that one more entry fits into the word: 56 bits.
 const KEYS: usize = 0x100_0000_0000_0000;
-
-// A byte as an index.
-pub(crate) fn wide(b: u8) -> usize
-    ensures { λ r. ⌜ r ≡ b ⌝ }
-{
-    b as usize
-}
 
 // Whether the rows of two letters are equal.
 fn same_row(table: &[u8; TABLE_SIZE], entries: usize, a: usize, b: usize) -> bool

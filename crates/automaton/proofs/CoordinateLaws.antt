@@ -9,12 +9,16 @@ use native.Mathlib.Omega.{arith}
 use native.Mathlib.Numerals.{one-add}
 use lib.ListN.{getD, length, length-append}
 use lib.Pow.{pow-mono}
+use Rattle.reader.specs.Limits.{nodeLimit}
 use Rattle.reader.specs.Formula.{Unary, Binary, Formula, constant, name, unary, neg, next, weak, eventually, always, binary, until, release, conj, disj, impl, withUnary, withBinary, operators}
 use Rattle.reader.specs.inner.Nodes.{unaryCode, binaryCode, wordOf}
+use Rattle.automaton.specs.Limits.{coordinateLimit, vectorLimit}
 use Rattle.automaton.specs.Bits.{bit, ofBits, gather}
 use Rattle.automaton.specs.Valuation.{value, coords, ends, present, endVector}
 use Rattle.automaton.specs.inner.Representation.{Represents}
-use Rattle.automaton.specs.inner.Nodes.{Node, at-constant, at-name, at-unary, at-binary, nodeKind, Evaluated, temporalKind, coordinateOf, Located, ownerOf, owner, endOf, endBit, Makes}
+use Rattle.automaton.specs.inner.Nodes.{Node, at-constant, at-name, at-unary, at-binary, nodeKind}
+use Rattle.automaton.specs.inner.Evaluation.{Evaluated}
+use Rattle.automaton.specs.inner.Coordinates.{temporalKind, placeCount, coordinateOf, Located, ownerOf, owner, endOf, endBit, Makes}
 use Rattle.automaton.proofs.BitLaws.{ofBits-lt, ofBits-ext}
 use Rattle.reader.proofs.NodeLaws.{size-pos}
 use Rattle.automaton.proofs.ValuationLaws.{coords-length, ends-length}
@@ -120,9 +124,9 @@ module _ (g : ℕ → Bool) where
       along-append k bs (binaryBits b x cs) o (subst (λ (i : ℕ). Along (k + i) (binaryBits b x cs)) (sym l) (along-right b (k + n) x cs e p))
 
 -- ---- the coordinates of a formula's nodes
-module _ (nodes places : List ℕ) (m : ℕ) (few : m ≤ 64) (pl : (o : ℕ) → o < m → 0 < coordinateOf (getD nodes o 0) → getD places (coordinateOf (getD nodes o 0)) 0 ≡ o) where
+module _ (nodes places : List ℕ) (m : ℕ) (few : m ≤ nodeLimit) (pl : (o : ℕ) → o < m → 0 < coordinateOf (getD nodes o 0) → getD places (coordinateOf (getD nodes o 0)) 0 ≡ o) where
   -- what is asked of a coordinate's node is asked of the operator that has it
-  operator : {A : Type 0} (f : ℕ → ℕ → A) (i K L k : ℕ) → K < 256 → L < 256 → 0 < k → k < 8 → i < m → getD nodes i 0 ≡ wordOf K L k → temporalKind K ≡ true →
+  operator : {A : Type 0} (f : ℕ → ℕ → A) (i K L k : ℕ) → K < 256 → L < 256 → 0 < k → k < placeCount → i < m → getD nodes i 0 ≡ wordOf K L k → temporalKind K ≡ true →
       f (nodeKind (getD nodes (getD places k 0) 0)) (getD places k 0) ≡ f K i
   operator f i K L k hK hL pos hk h e t =
       let c : coordinateOf (getD nodes i 0) ≡ k = coordinate-word K L k _ hK hL hk e ∙ ap (λ (b : Bool). cond b k 0) t in
@@ -130,7 +134,7 @@ module _ (nodes places : List ℕ) (m : ℕ) (few : m ≤ 64) (pl : (o : ℕ) �
       ap (λ (o : ℕ). f (nodeKind (getD nodes o 0)) o) p ∙ ap (λ (x : ℕ). f x i) (ap nodeKind e ∙ kind-field K L k hK hL)
 
   -- ---- the end valuation
-  ended : (i k : ℕ) (φ : Formula) → i < m → 0 < k → k + operators φ < 8 → Node nodes i k φ → Along (λ j. endOf (nodeKind (getD nodes (getD places j 0) 0))) k (ends φ)
+  ended : (i k : ℕ) (φ : Formula) → i < m → 0 < k → k + operators φ < placeCount → Node nodes i k φ → Along (λ j. endOf (nodeKind (getD nodes (getD places j 0) 0))) k (ends φ)
   unfolding ends operators
   ended i k (constant b) h pos room (at-constant e) = along-nil _ k
   ended i k (name n) h pos room (at-name e) = along-nil _ k
@@ -152,7 +156,7 @@ module _ (nodes places : List ℕ) (m : ℕ) (few : m ≤ 64) (pl : (o : ℕ) �
       (ended i' (withBinary b (k + operators φ)) ψ (omega arith) (omega arith) (omega arith) t))
 
   -- ---- the words of the coordinates
-  module _ (a : ℕ) (ws : List ℕ) (ev : Evaluated nodes a ws m) (v : ℕ) (hv : v < 64) where
+  module _ (a : ℕ) (ws : List ℕ) (ev : Evaluated nodes a ws m) (v : ℕ) (hv : v < vectorLimit) where
     -- the bit of an operator's coordinate
     abbrev own : ℕ → Bool
     own k = bit (getD ws (ownerOf (nodeKind (getD nodes (getD places k 0) 0)) (getD places k 0)) 0) v
@@ -175,7 +179,7 @@ module _ (nodes places : List ℕ) (m : ℕ) (few : m ≤ 64) (pl : (o : ℕ) �
     own-binary disj i x t y = y
     own-binary impl i x t y = y
 
-    owned : (i k : ℕ) (φ : Formula) → i < m → 0 < k → k + operators φ < 8 → Node nodes i k φ → Along own k (coords φ k a v)
+    owned : (i k : ℕ) (φ : Formula) → i < m → 0 < k → k + operators φ < placeCount → Node nodes i k φ → Along own k (coords φ k a v)
     unfolding coords operators
     owned i k (constant b) h pos room (at-constant e) = along-nil own k
     owned i k (name n) h pos room (at-name e) = along-nil own k
@@ -200,7 +204,7 @@ module _ (nodes places : List ℕ) (m : ℕ) (few : m ≤ 64) (pl : (o : ℕ) �
 -- ---- the promises of the functions
 
 -- the root's bit
-pub root-bit : (nodes : List ℕ) (m : ℕ) (φ : Formula) → Represents nodes m φ → (a : ℕ) (ws : List ℕ) → Evaluated nodes a ws m → (v : ℕ) → v < 64 → bit (getD ws (m - 1) 0) v ≡ value φ 1 a v
+pub root-bit : (nodes : List ℕ) (m : ℕ) (φ : Formula) → Represents nodes m φ → (a : ℕ) (ws : List ℕ) → Evaluated nodes a ws m → (v : ℕ) → v < vectorLimit → bit (getD ws (m - 1) 0) v ≡ value φ 1 a v
 root-bit nodes m φ rep a ws ev v hv = node-bit nodes a ws m v (m - 1) 1 φ ev hv (omega (arith, rep .count, size-pos φ)) (root-node nodes m φ rep)
 
 module _ (nodes places : List ℕ) (m : ℕ) (φ : Formula) (rep : Represents nodes m φ) (loc : Located nodes m places) where
@@ -216,17 +220,17 @@ module _ (nodes places : List ℕ) (m : ℕ) (φ : Formula) (rep : Represents no
 
   module _ (a : ℕ) (ws : List ℕ) (ev : Evaluated nodes a ws m) where
     -- the valuation that the coordinates' words make from v is that of the present position
-    pub made-present : (ps : List ℕ) → ((j : ℕ) → j < 6 → getD ps j 0 ≡ getD ws (owner nodes places m j) 0) → Makes φ a ps
+    pub made-present : (ps : List ℕ) → ((j : ℕ) → j < coordinateLimit → getD ps j 0 ≡ getD ws (owner nodes places m j) 0) → Makes φ a ps
     unfolding Makes present gather Along owner
     made-present ps same v hv =
         let l = value φ 1 a v ∷ coords φ 1 a v in
         let few = rep .few-operators in
         let pos = size-pos φ in
         let g : ℕ → Bool = λ j. bit (getD ws (owner nodes places m j) 0) v in
-        let m64 : m ≤ 64 = omega (arith, rep .count, rep .few-nodes) in
+        let m-few : m ≤ nodeLimit = omega (arith, rep .count, rep .few-nodes) in
         let pl = placed nodes places m φ rep loc in
-        let tree = owned nodes places m m64 pl a ws ev v hv (m - 1) 1 φ (omega (arith, rep .count)) (omega arith) (omega arith) (root-node nodes m φ rep) in
-        let all = along-cons g 0 (value φ 1 a v) (coords φ 1 a v) (root-bit nodes m φ rep a ws ev v hv) (λ j h. ap g (one-add j) ∙ ap (own nodes places m m64 pl a ws ev v hv) (sym (one-add j)) ∙ tree j h) in
+        let tree = owned nodes places m m-few pl a ws ev v hv (m - 1) 1 φ (omega (arith, rep .count)) (omega arith) (omega arith) (root-node nodes m φ rep) in
+        let all = along-cons g 0 (value φ 1 a v) (coords φ 1 a v) (root-bit nodes m φ rep a ws ev v hv) (λ j h. ap g (one-add j) ∙ ap (own nodes places m m-few pl a ws ev v hv) (sym (one-add j)) ∙ tree j h) in
         let n : length l ≡ suc (operators φ) = ap suc (coords-length φ 1 a v) in
         ofBits-ext (λ j. bit (getD ps j 0) v) (λ j. getD l j false) (suc (operators φ))
         (λ j h. ap (λ (x : ℕ). bit x v) (same j (omega arith)) ∙ ap g (sym (zero-add j)) ∙ all j (omega arith))
@@ -244,10 +248,10 @@ end-suc nodes places zero h = absurd (h refl)
 end-suc nodes places (suc j) h = refl
 
 -- the valuation from the words, for a width at hand
-pub present-from : (φ : Formula) (a : ℕ) (ps : List ℕ) (w : ℕ) → w ≡ suc (operators φ) → Makes φ a ps → (v : ℕ) → v < 64 → ofBits (λ j. bit (getD ps j 0) v) w ≡ present φ a v
+pub present-from : (φ : Formula) (a : ℕ) (ps : List ℕ) (w : ℕ) → w ≡ suc (operators φ) → Makes φ a ps → (v : ℕ) → v < vectorLimit → ofBits (λ j. bit (getD ps j 0) v) w ≡ present φ a v
 unfolding Makes
 present-from φ a ps w e made v h = ap (ofBits (λ j. bit (getD ps j 0) v)) e ∙ made v h
 
 -- a valuation fits six bits
-pub ofBits-small : (f : ℕ → Bool) (w : ℕ) → w ≤ 6 → ofBits f w < 64
-ofBits-small f w h = lt-of-lt-of-le (ofBits-lt f w) (pow-mono {i = w} {j = 6} h)
+pub ofBits-small : (f : ℕ → Bool) (w : ℕ) → w ≤ coordinateLimit → ofBits f w < vectorLimit
+ofBits-small f w h = lt-of-lt-of-le (ofBits-lt f w) (pow-mono {i = w} {j = coordinateLimit} h)

@@ -10,11 +10,13 @@ use borrow.Author.Tests.{le-leb, lt-leb}
 use lib.Dec.{leb}
 use lib.ListN.{getD, set, length}
 use lib.Seq.{getD-set-same, getD-set-other}
+use Rattle.reader.specs.Limits.{nodeLimit}
 use Rattle.reader.specs.Formula.{Unary, Binary, Formula, constant, name, unary, neg, next, weak, eventually, always, binary, until, release, conj, disj, impl, size, withUnary, withBinary, operators}
 use Rattle.reader.specs.inner.Nodes.{constantCode, nameCode, unaryCode, binaryCode, wordOf}
 use Rattle.automaton.specs.Bits.{one}
 use Rattle.automaton.specs.inner.Representation.{Represents}
-use Rattle.automaton.specs.inner.Nodes.{Node, at-constant, at-name, at-unary, at-binary, nodeKind, argumentOf, temporalKind, isTemporalNode, operatorsIn, coordinateOf, Located}
+use Rattle.automaton.specs.inner.Nodes.{Node, at-constant, at-name, at-unary, at-binary, nodeKind, argumentOf}
+use Rattle.automaton.specs.inner.Coordinates.{temporalKind, isTemporalNode, operatorsIn, placeCount, coordinateOf, Located}
 use Rattle.reader.proofs.NodeLaws.{size-pos}
 use Rattle.automaton.proofs.NodeLaws.{kind-field, argument-field, unary-small, binary-small, root-node}
 
@@ -35,9 +37,9 @@ temporal-word : (K L A w : ℕ) → K < 256 → L < 256 → w ≡ wordOf K L A �
 unfolding isTemporalNode
 temporal-word K L A w hK hL e = ap temporalKind (ap nodeKind e ∙ kind-field K L A hK hL)
 
-pub coordinate-word : (K L A w : ℕ) → K < 256 → L < 256 → A < 8 → w ≡ wordOf K L A → coordinateOf w ≡ cond (temporalKind K) A 0
+pub coordinate-word : (K L A w : ℕ) → K < 256 → L < 256 → A < placeCount → w ≡ wordOf K L A → coordinateOf w ≡ cond (temporalKind K) A 0
 unfolding coordinateOf
-coordinate-word K L A w hK hL hA e = ap₂ (λ (b : Bool) (n : ℕ). cond b n 0) (temporal-word K L A w hK hL e) (ap (λ (x : ℕ). x % 8) (ap argumentOf e ∙ argument-field K L A hK hL) ∙ mod-eq-of-lt hA)
+coordinate-word K L A w hK hL hA e = ap₂ (λ (b : Bool) (n : ℕ). cond b n 0) (temporal-word K L A w hK hL e) (ap (λ (x : ℕ). x % placeCount) (ap argumentOf e ∙ argument-field K L A hK hL) ∙ mod-eq-of-lt hA)
 
 -- ---- what an operator adds to a count
 pub unary-adds : (u : Unary) (n : ℕ) → withUnary u n ≡ one (temporalKind (unaryCode u)) + n
@@ -61,13 +63,13 @@ chosen false c A e h = absurd (let z : ⊥ = omega arith in z)
 
 no-coordinate-word : (K L A w : ℕ) → K < 256 → L < 256 → temporalKind K ≡ false → w ≡ wordOf K L A → coordinateOf w ≡ 0
 unfolding coordinateOf
-no-coordinate-word K L A w hK hL n e = ap (λ (b : Bool). cond b (argumentOf w % 8) 0) (temporal-word K L A w hK hL e ∙ n)
+no-coordinate-word K L A w hK hL n e = ap (λ (b : Bool). cond b (argumentOf w % placeCount) 0) (temporal-word K L A w hK hL e ∙ n)
 
-coordinate-small : (w : ℕ) → coordinateOf w < 8
+coordinate-small : (w : ℕ) → coordinateOf w < placeCount
 unfolding coordinateOf
 coordinate-small w = pick (isTemporalNode w)
   where
-    pick : (b : Bool) → cond b (argumentOf w % 8) 0 < 8
+    pick : (b : Bool) → cond b (argumentOf w % placeCount) 0 < placeCount
     pick true = omega arith
     pick false = omega arith
 
@@ -81,11 +83,11 @@ module _ (nodes : List ℕ) where
   at o = coordinateOf (getD nodes o 0)
 
   -- a node's coordinate, if it has one, is its argument
-  own : (i k K L o : ℕ) → K < 256 → L < 256 → k < 8 → getD nodes i 0 ≡ wordOf K L k → o ≡ i → 0 < at o → (at o ≡ k) × (one (temporalKind K) ≡ 1)
+  own : (i k K L o : ℕ) → K < 256 → L < 256 → k < placeCount → getD nodes i 0 ≡ wordOf K L k → o ≡ i → 0 < at o → (at o ≡ k) × (one (temporalKind K) ≡ 1)
   own i k K L o hK hL hk e q p = chosen (temporalKind K) (at o) k (ap at q ∙ coordinate-word K L k _ hK hL hk e) p
 
   -- the coordinates of a formula's operators lie between its first and the last
-  within : (i k o : ℕ) (φ : Formula) → i < 64 → k + operators φ < 8 → Node nodes i k φ → o ≤ i → i < o + size φ → 0 < at o → (k ≤ at o) × (at o < k + operators φ)
+  within : (i k o : ℕ) (φ : Formula) → i < nodeLimit → k + operators φ < placeCount → Node nodes i k φ → o ≤ i → i < o + size φ → 0 < at o → (k ≤ at o) × (at o < k + operators φ)
   unfolding size operators
   within i k o (constant b) small few (at-constant e) h g p =
       let q : o ≡ i = omega arith in
@@ -115,7 +117,7 @@ module _ (nodes : List ℕ) where
       (eq-or-lt-of-le h)
 
   -- no two operators of a formula have the same coordinate
-  apart : (i k o p : ℕ) (φ : Formula) → i < 64 → k + operators φ < 8 → Node nodes i k φ → o < p → p ≤ i → i < o + size φ → 0 < at o → at o ≡ at p → ⊥
+  apart : (i k o p : ℕ) (φ : Formula) → i < nodeLimit → k + operators φ < placeCount → Node nodes i k φ → o < p → p ≤ i → i < o + size φ → 0 < at o → at o ≡ at p → ⊥
   unfolding size operators
   apart i k o p (constant b) small few (at-constant e) l h g z same = omega arith
   apart i k o p (name j) small few (at-name e) l h g z same = omega arith
@@ -167,7 +169,7 @@ module _ (nodes : List ℕ) where
       (eq-or-lt-of-le (w .0))
 
   -- ---- the number of operators
-  counted : (i k n : ℕ) (φ : Formula) → suc i ≡ n + size φ → i < 64 → Node nodes i k φ → operatorsIn nodes (suc i) ≡ operatorsIn nodes n + operators φ
+  counted : (i k n : ℕ) (φ : Formula) → suc i ≡ n + size φ → i < nodeLimit → Node nodes i k φ → operatorsIn nodes (suc i) ≡ operatorsIn nodes n + operators φ
   unfolding size operators operatorsIn
   counted i k n (constant b) e small (at-constant w) =
       let i=n : i ≡ n = omega arith in
@@ -205,7 +207,7 @@ module _ (nodes : List ℕ) where
   unfolding Located
   located-none places j o h e = absurd (let z : ⊥ = omega arith in z)
 
-  pub located-more : (places : List ℕ) (m : ℕ) → length places ≡ 8 → Located nodes m places → Located nodes (suc m) (set places (at m) m)
+  pub located-more : (places : List ℕ) (m : ℕ) → length places ≡ placeCount → Located nodes m places → Located nodes (suc m) (set places (at m) m)
   unfolding Located
   located-more places m n loc j o h e =
       let small = coordinate-small (getD nodes m 0) in
@@ -232,10 +234,10 @@ pub kind-temporal : (w : ℕ) → 4 ≤ nodeKind w → nodeKind w ≤ 9 → isTe
 unfolding isTemporalNode
 kind-temporal w h l = ap₂ _&&_ (le-leb 4 (nodeKind w) h) (le-leb (nodeKind w) 9 l)
 
-pub coordinate-temporal : (w : ℕ) → isTemporalNode w ≡ true → coordinateOf w ≡ argumentOf w % 8
+pub coordinate-temporal : (w : ℕ) → isTemporalNode w ≡ true → coordinateOf w ≡ argumentOf w % placeCount
 unfolding coordinateOf
-coordinate-temporal w t = ap (λ (b : Bool). cond b (argumentOf w % 8) 0) t
+coordinate-temporal w t = ap (λ (b : Bool). cond b (argumentOf w % placeCount) 0) t
 
 pub coordinate-other : (w : ℕ) → isTemporalNode w ≡ false → coordinateOf w ≡ 0
 unfolding coordinateOf
-coordinate-other w t = ap (λ (b : Bool). cond b (argumentOf w % 8) 0) t
+coordinate-other w t = ap (λ (b : Bool). cond b (argumentOf w % placeCount) 0) t

@@ -28,7 +28,7 @@ pub record Represented (i o : ℕ) (t : Bool) (text nodes : List ℕ) (n : ℕ) 
   pub good : IsGood i (kindIn i o t) text formula
   pub represents : Represents nodes n formula
 
--- what the reader leaves in a buffer of 64 words on a good text
+-- what the reader leaves in a buffer of as many words as nodes are allowed on a good text
 pub read-represents : (i o : ℕ) (t : Bool) (text nodes : List ℕ) (ρ : Reading) (n : ℕ) → ρ ≡ Good n → ReadingOf i (kindIn i o t) text ρ → Written i (kindIn i o t) text ρ (replicate nodeLimit 0) nodes
     → Represented i o t text nodes n
 unfolding ReadingOf Written

@@ -22,9 +22,9 @@ use Rattle.reader.proofs.RefusalLaws.{something, NotGood, rule-refused}
 use Rattle.reader.proofs.Unambiguous.{some-reading}
 use Rattle.automaton.specs.declared.trial.Trial.{Trial}
 use Rattle.automaton.specs.declared.trial.Trial.the-variants.{Satisfied, Violated, Refused}
-use Rattle.automaton.specs.Alphabet.{badAlphabet, letterCount}
+use Rattle.automaton.specs.Alphabet.{badAlphabet, letterCount, firstOver, afterList}
 use Rattle.automaton.specs.Trace.{Satisfies}
-use Rattle.automaton.specs.Trial.{firstOver, afterList, trialRefusal, trialNumber, trialPlace, Judged, Tried}
+use Rattle.automaton.specs.Trial.{trialRefusal, trialNumber, trialPlace, Judged, Tried}
 
 module _ (i o : ℕ) (text letters : List ℕ) where
   refused : (ρ : Reading) → ReadingOf i (ruleKind i o) text ρ → (x : Refusal) → isNothing x ≡ false → x ≡ trialRefusal i o text letters ρ → Tried i o text letters (Refused x)

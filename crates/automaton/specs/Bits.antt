@@ -6,6 +6,10 @@ use mathlib.Core.List.{List}
 use lib.Dec.{eqb}
 use lib.ListN.{length, getD}
 
+-- the bits of a machine's word
+abbrev pub wordBits : ℕ
+wordBits = 64
+
 -- bit k of x
 unfoldable pub bit : ℕ → ℕ → Bool
 bit x k = eqb (x / 2 ^ k % 2) 1

@@ -1,7 +1,7 @@
+pub mod Limits
 pub mod Alphabet
 pub mod Bits
 pub mod Trace
-pub mod Limits
 pub mod Valuation
 pub mod State
 pub mod Discovery

@@ -1,13 +1,11 @@
 -- The trial call (specification, "Calls"): whether a list of letters satisfies a rule. Its answer is the declared type `Trial`.
 -- Its order of refusals is 1, 2, 4, 5, 6, 13, the last with the index of the first letter that is too large.
 -- Assumes nothing.
-use Prim.Native.Nat.{ℕ, suc}
+use Prim.Native.Nat.{ℕ}
 use mathlib.Core.Path.{_≡_}
 use mathlib.Core.Bool.{Bool, true, cond}
-use mathlib.Core.List.{List, [], _∷_}
+use mathlib.Core.List.{List}
 use mathlib.Core.Logic.{_↔_}
-use lib.Dec.{ltb, leb}
-use lib.ListN.{length}
 use Rattle.reader.specs.declared.reading.Reading.{Reading}
 use Rattle.reader.specs.declared.refusal.Refusal.{Refusal}
 use Rattle.reader.specs.declared.refusal.Refusal.the-variants.{Nothing, Alphabet, TextLength, Value}
@@ -18,17 +16,8 @@ use Rattle.reader.specs.Reading.{ReadingOf, IsGood}
 use Rattle.reader.specs.Refusal.{numberOf, placeOf, afterRule}
 use Rattle.automaton.specs.declared.trial.Trial.{Trial}
 use Rattle.automaton.specs.declared.trial.Trial.the-variants.{Satisfied, Violated, Refused}
-use Rattle.automaton.specs.Alphabet.{badAlphabet, letterCount}
+use Rattle.automaton.specs.Alphabet.{badAlphabet, letterCount, firstOver, afterList}
 use Rattle.automaton.specs.Trace.{Satisfies}
-
--- the index of the first number of a list that is `bound` or more, or the list's length
-unfoldable pub firstOver : ℕ → List ℕ → ℕ
-firstOver bound [] = 0
-firstOver bound (a ∷ w) = cond (leb bound a) 0 (suc (firstOver bound w))
-
--- the refusal for the first number of a list that is too large
-abbrev pub afterList : ℕ → List ℕ → (ℕ → Refusal) → Refusal → Refusal
-afterList bound w refusal later = cond (ltb (firstOver bound w) (length w)) (refusal (firstOver bound w)) later
 
 -- the refusal that comes first, for a text with the reading ρ
 unfoldable pub trialRefusal : ℕ → ℕ → List ℕ → List ℕ → Reading → Refusal

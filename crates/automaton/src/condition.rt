@@ -2,6 +2,7 @@
 ghost use Rattle.automaton.specs.Condition.{Conditioned};
 use crate::alphabet::bad_alphabet;
 use crate::alphabet::power;
+use crate::limits::NODE_LIMIT;
 use crate::mask::condition_mask;
 use reader::reading::Reading;
 use reader::reading::read;
@@ -25,7 +26,7 @@ pub fn read_condition(i: usize, text: &[u8]) -> Assumption
     if too_long(text) {
         return Assumption::Refused(Refusal::TextLength);
     }
-    let mut nodes = [0usize; 64];
+    let mut nodes = [0usize; NODE_LIMIT];
     let reading = read(text, i as u8, 0, false, &mut nodes);
     let Reading::Good(count) = reading else {
         return Assumption::Refused(condition_refusal(reading));

@@ -13,9 +13,9 @@ ghost use Rattle.automaton.specs.Automaton.{Cleared};
 ghost use Rattle.automaton.specs.inner.Exploration.{Progress, Explored, StateExplored, BuiltAutomaton};
 use crate::bits::set_pair;
 use crate::bits::test_bit;
+use crate::bytes::wide;
 use crate::coordinates::start_word;
 use crate::twins::find_twins;
-use crate::twins::wide;
 
 // The number of states that are served.
 const STATE_LIMIT: usize = 128;

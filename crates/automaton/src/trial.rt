@@ -4,6 +4,7 @@ use crate::alphabet::bad_alphabet;
 use crate::alphabet::first_over;
 use crate::alphabet::power;
 use crate::fold::satisfied;
+use crate::limits::NODE_LIMIT;
 use crate::operators::operator_count;
 use reader::reading::Reading;
 use reader::reading::read;
@@ -28,7 +29,7 @@ pub fn try_rule(i: usize, o: usize, text: &[u8], letters: &[u8]) -> Trial
     if too_long(text) {
         return Trial::Refused(Refusal::TextLength);
     }
-    let mut nodes = [0usize; 64];
+    let mut nodes = [0usize; NODE_LIMIT];
     let reading = read(text, i as u8, o as u8, true, &mut nodes);
     let Reading::Good(count) = reading else {
         return Trial::Refused(rule_refusal(reading));

@@ -4,6 +4,7 @@ ghost use Prim.Native.Nat.{ℕ, _<_};
 ghost use Rattle.automaton.specs.Bits.{bit};
 ghost use Rattle.game.specs.Arena.{Arena, next};
 ghost use Rattle.game.specs.inner.Rank.{arenaOf, Closed, Entered};
+use automaton::bytes::wide;
 
 // The mode, the condition's mask, and the numbers of states, inputs and outputs.
 pub struct Game {
@@ -20,13 +21,6 @@ pub(crate) fn has_condition(mask: u16, x: usize) -> bool
     ensures { λ r. ⌜ r ≡ bit mask x ⌝ }
 {
     (mask >> x) % 2 == 1
-}
-
-// A byte as a number.
-pub(crate) fn wide(b: u8) -> usize
-    ensures { λ r. ⌜ r ≡ b ⌝ }
-{
-    b as usize
 }
 
 // The state that input x and output y lead to from state s.

@@ -11,11 +11,11 @@ ghost use Rattle.game.specs.Given.{shortRead};
 ghost use Rattle.game.specs.Follower.{shortStrategy, movedBy, laterFollowed, FollowedBy};
 use crate::answer::Mode;
 use crate::arena::Game;
-use crate::arena::wide;
 use crate::checks::bad_count;
 use crate::checks::game_of;
 use crate::checks::short_read;
 use automaton::alphabet::bad_alphabet;
+use automaton::bytes::wide;
 use reader::refusal::Refusal;
 
 // A place in a play: the state, and whether a goal was entered.

@@ -2,7 +2,7 @@
 use crate::arena::Game;
 use crate::arena::enters;
 use crate::arena::has_condition;
-use crate::arena::wide;
+use automaton::bytes::wide;
 ghost use mathlib.Core.Path.{_≡_};
 ghost use mathlib.Core.Bool.{true, false};
 ghost use Prim.Native.Nat.{_<_, _≤_};

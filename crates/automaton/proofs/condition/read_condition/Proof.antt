@@ -11,6 +11,7 @@ use denote.Ref.{now}
 use Rattle.reader.specs.Limits.{tooLong}
 use Rattle.reader.proofs.RefusalLaws.{not-good}
 use Rattle.reader.proofs.StaticLaws.{static}
+use Rattle.automaton.specs.Limits.{nameLimit, numberLimit}
 use Rattle.automaton.specs.Alphabet.{badAlphabet}
 use Rattle.automaton.specs.Bits.{ofBits}
 use Rattle.automaton.specs.Valuation.{value}
@@ -95,7 +96,7 @@ condition-mask-requires c κs =
     let z = begin k .args in
     let v = represented k .represents in
     let h = inputs-fit (z .i) 0 (fits (k .before .before .before .before .before)) in
-    let m : 2 ^ z .i ≤ 16 = pow-mono {j = 4} h in
+    let m : 2 ^ z .i ≤ numberLimit = pow-mono {j = nameLimit} h in
     (omega (arith, v .few-nodes, v .count), omega (arith, inputs-are c))
 
 returns-4 : tie.Need-returns-4

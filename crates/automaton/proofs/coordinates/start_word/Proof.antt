@@ -3,6 +3,7 @@ use Prim.Native.Nat.{ℕ, _%_, _<_}
 use native.Mathlib.Omega.{arith}
 use lib.Pow.{pow-pos}
 use mathlib.Core.Path.{_≡_, sym, ap, ap₂, _∙_}
+use Rattle.automaton.specs.Limits.{vectorLimit}
 use Rattle.automaton.specs.Bits.{bit, ofBits}
 use Rattle.automaton.proofs.BitLaws.{ofBits-mod, bit-shifted}
 use borrow.Author.Needs.{needs}
@@ -21,12 +22,12 @@ rem-result c = rw (bit-shifted (c .before .before .args .vectors) (c .if1 .taken
 returns : tie.Need-returns
 returns c =
     let n = c .before .before .args .vectors in
-    let h : n < 64 = c .if1 .taken in
-    ap₂ (λ (x y : ℕ). x % y) (c .before .coordinate .ensures) (bit-shifted n h) ∙ ofBits-mod (λ v. bit v 0) 64 n (omega arith)
+    let h : n < vectorLimit = c .if1 .taken in
+    ap₂ (λ (x y : ℕ). x % y) (c .before .coordinate .ensures) (bit-shifted n h) ∙ ofBits-mod (λ v. bit v 0) vectorLimit n (omega arith)
 
 returns-2 : tie.Need-returns-2
 returns-2 c =
-    let e : 64 ≡ c .before .before .args .vectors = omega arith in
+    let e : vectorLimit ≡ c .before .before .args .vectors = omega arith in
     c .before .coordinate .ensures ∙ ap (ofBits (λ v. bit v 0)) e
 
 pub start-word-spec : {M : Type 1} → statement M

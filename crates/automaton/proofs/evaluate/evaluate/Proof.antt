@@ -1,5 +1,6 @@
 -- `automaton::evaluate::evaluate` meets its contract. The invariant: the nodes below i have their words. The measure is what is left of the nodes. Assumes nothing.
-use Rattle.automaton.specs.inner.Nodes.{Evaluated}
+use Rattle.reader.specs.Limits.{nodeLimit}
+use Rattle.automaton.specs.inner.Evaluation.{Evaluated}
 use native.Mathlib.Omega.{arith}
 use mathlib.Core.Path.{_≡_, refl, ap, _∙_}
 use Prim.Native.Nat.{ℕ, _-_, _≤_}
@@ -11,7 +12,7 @@ use Rattle.automaton.proofs.evaluate.evaluate.Statement.{statement}
 use Rattle.automaton.proofs.evaluate.evaluate.Tie as tie
 
 abbrev Inv-loop : tie.InvT-loop
-Inv-loop nodes count letter words₀ i₀ words i = (i ≤ count) × (length words ≡ 64) × Evaluated nodes letter words i
+Inv-loop nodes count letter words₀ i₀ words i = (i ≤ count) × (length words ≡ nodeLimit) × Evaluated nodes letter words i
 
 abbrev μ-loop : tie.MeasureT-loop
 μ-loop nodes count letter words₀ i₀ words i = count - i

@@ -1,4 +1,4 @@
--- `automaton::evaluate::name_word` meets its contract: all 64 bits are the letter's one. Assumes nothing.
+-- `automaton::evaluate::name_word` meets its contract: every bit is the letter's one. Assumes nothing.
 use mathlib.Core.Path.{sym, _∙_}
 use Rattle.automaton.proofs.BitLaws.{bit-high, same-true, same-false, one-true, one-false}
 use borrow.Author.Needs.{needs}

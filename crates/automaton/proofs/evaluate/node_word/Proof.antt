@@ -1,6 +1,6 @@
 -- `automaton::evaluate::node_word` meets its contract: each arm is the case of its kind. Assumes nothing.
 use borrow.Author.Tests.{ne-eqb}
-use Rattle.automaton.specs.inner.Nodes.{nodeWord}
+use Rattle.automaton.specs.inner.Evaluation.{nodeWord}
 use borrow.Author.Needs.{needs}
 use Rattle.automaton.proofs.evaluate.node_word.Statement.{statement}
 use Rattle.automaton.proofs.evaluate.node_word.Tie as tie

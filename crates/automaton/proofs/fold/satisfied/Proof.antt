@@ -7,6 +7,7 @@ use lib.ListN.{getD, length, drop}
 use lib.Dec.{eqb}
 use lib.Seq.{drop-length}
 use Rattle.reader.specs.Formula.{Formula, operators}
+use Rattle.automaton.specs.Limits.{vectorLimit}
 use Rattle.automaton.specs.Bits.{bit}
 use Rattle.automaton.specs.Valuation.{present}
 use Rattle.automaton.specs.inner.Representation.{Represents}
@@ -17,7 +18,7 @@ use Rattle.automaton.proofs.fold.satisfied.Statement.{statement}
 use Rattle.automaton.proofs.fold.satisfied.Tie as tie
 
 abbrev Inv-loop : tie.InvT-loop
-Inv-loop nodes count width letters v₀ i₀ v i = (i ≤ length letters) × (v < 64) × ((φ : Formula) → Represents nodes count φ → width ≡ suc (operators φ) → v ≡ valuation φ (drop i letters))
+Inv-loop nodes count width letters v₀ i₀ v i = (i ≤ length letters) × (v < vectorLimit) × ((φ : Formula) → Represents nodes count φ → width ≡ suc (operators φ) → v ≡ valuation φ (drop i letters))
 
 abbrev μ-loop : tie.MeasureT-loop
 μ-loop nodes count width letters v₀ i₀ v i = i

@@ -5,7 +5,7 @@ use mathlib.Core.Path.{_≡_, refl, ap, _∙_}
 use Prim.Native.Nat.{_+_, _-_, _≤_}
 use lib.ListN.{getD}
 use Rattle.automaton.specs.Bits.{one}
-use Rattle.automaton.specs.inner.Nodes.{isTemporalNode, operatorsIn}
+use Rattle.automaton.specs.inner.Coordinates.{isTemporalNode, operatorsIn}
 use Rattle.automaton.proofs.OperatorLaws.{all-counted}
 use borrow.Author.Needs.{needs}
 use Rattle.automaton.proofs.operators.operator_count.Statement.{statement}

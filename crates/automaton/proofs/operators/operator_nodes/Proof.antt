@@ -4,14 +4,14 @@ use native.Mathlib.Numerals.{add-one}
 use mathlib.Core.Path.{_≡_, refl}
 use Prim.Native.Nat.{_-_, _≤_}
 use lib.ListN.{length, length-set}
-use Rattle.automaton.specs.inner.Nodes.{Located}
+use Rattle.automaton.specs.inner.Coordinates.{placeCount, Located}
 use Rattle.automaton.proofs.OperatorLaws.{located-none, located-more}
 use borrow.Author.Needs.{needs}
 use Rattle.automaton.proofs.operators.operator_nodes.Statement.{statement}
 use Rattle.automaton.proofs.operators.operator_nodes.Tie as tie
 
 abbrev Inv-loop : tie.InvT-loop
-Inv-loop nodes count places₀ i₀ places i = (i ≤ count) × (length places ≡ 8) × Located nodes i places
+Inv-loop nodes count places₀ i₀ places i = (i ≤ count) × (length places ≡ placeCount) × Located nodes i places
 
 abbrev μ-loop : tie.MeasureT-loop
 μ-loop nodes count places₀ i₀ places i = count - i

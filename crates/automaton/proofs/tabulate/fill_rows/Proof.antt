@@ -4,6 +4,7 @@ use mathlib.Core.Path.{_≡_, refl, _∙_}
 use Prim.Native.Nat.{ℕ, suc, _+_, _-_, _*_, _≤_, _<_}
 use lib.ListN.{getD, length}
 use Rattle.reader.specs.Formula.{Formula, operators}
+use Rattle.automaton.specs.Limits.{pairLimit}
 use Rattle.automaton.specs.Valuation.{present}
 use Rattle.automaton.specs.inner.Representation.{Represents}
 use Rattle.automaton.proofs.CoordinateLaws.{present-from}
@@ -14,7 +15,7 @@ use Rattle.automaton.proofs.tabulate.fill_rows.Tie as tie
 
 abbrev Inv-loop : tie.InvT-loop
 Inv-loop nodes places count width entries letters table₀ a₀ table a =
-    (a ≤ letters) × (length table ≡ length table₀) × ((φ : Formula) → Represents nodes count φ → width ≡ suc (operators φ) → (b k : ℕ) → b < a → k < entries → getD table (b * 32 + k) 0 ≡ present φ b (2 * k))
+    (a ≤ letters) × (length table ≡ length table₀) × ((φ : Formula) → Represents nodes count φ → width ≡ suc (operators φ) → (b k : ℕ) → b < a → k < entries → getD table (b * pairLimit + k) 0 ≡ present φ b (2 * k))
 
 abbrev μ-loop : tie.MeasureT-loop
 μ-loop nodes places count width entries letters table₀ a₀ table a = letters - a

@@ -12,10 +12,10 @@ use Rattle.reader.specs.Formula.{operators}
 use Rattle.reader.proofs.RefusalLaws.{not-good}
 use Rattle.automaton.specs.declared.trial.Trial.{Trial}
 use Rattle.automaton.specs.declared.trial.Trial.the-variants.{Satisfied, Violated}
-use Rattle.automaton.specs.Alphabet.{badAlphabet, letterCount}
+use Rattle.automaton.specs.Alphabet.{badAlphabet, letterCount, firstOver}
 use Rattle.automaton.specs.Bits.{bit}
 use Rattle.automaton.specs.inner.Fold.{valuation}
-use Rattle.automaton.specs.Trial.{firstOver, Tried}
+use Rattle.automaton.specs.Trial.{Tried}
 use Rattle.automaton.proofs.Meaning.{valuation-satisfies}
 use Rattle.automaton.proofs.AlphabetLaws.{inputs-fit, outputs-fit, letters-fit}
 use Rattle.automaton.proofs.ReadLaws.{Represented, read-represents}

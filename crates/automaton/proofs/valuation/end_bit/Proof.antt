@@ -3,7 +3,8 @@ use mathlib.Core.Path.{sym, ap, _∙_}
 use Prim.Native.Nat.{ℕ}
 use lib.ListN.{getD}
 use Rattle.automaton.specs.Bits.{one}
-use Rattle.automaton.specs.inner.Nodes.{nodeKind, endOf, endBit}
+use Rattle.automaton.specs.inner.Nodes.{nodeKind}
+use Rattle.automaton.specs.inner.Coordinates.{endOf, endBit}
 use Rattle.automaton.proofs.CoordinateLaws.{end-suc}
 use borrow.Author.Needs.{needs}
 use Rattle.automaton.proofs.valuation.end_bit.Statement.{statement}

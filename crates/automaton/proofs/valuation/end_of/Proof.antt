@@ -1,6 +1,6 @@
 -- `automaton::valuation::end_of` meets its contract. Assumes nothing.
 use borrow.Author.Tests.{ne-eqb}
-use Rattle.automaton.specs.inner.Nodes.{endOf}
+use Rattle.automaton.specs.inner.Coordinates.{endOf}
 use Rattle.automaton.proofs.valuation.end_of.Statement.{statement}
 use Rattle.automaton.proofs.valuation.end_of.Tie as tie
 

@@ -1,6 +1,6 @@
 -- `automaton::valuation::owner_of` meets its contract. Assumes nothing.
 use borrow.Author.Tests.{ne-eqb}
-use Rattle.automaton.specs.inner.Nodes.{ownerOf}
+use Rattle.automaton.specs.inner.Coordinates.{ownerOf}
 use borrow.Author.Needs.{needs}
 use Rattle.automaton.proofs.valuation.owner_of.Statement.{statement}
 use Rattle.automaton.proofs.valuation.owner_of.Tie as tie

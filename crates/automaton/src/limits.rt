@@ -1,0 +1,34 @@
+// The limits of the automaton layer, and the sizes that follow from them. specs/Limits.antt has the same ones for the contracts.
+
+// The reader's limit on nodes.
+pub const NODE_LIMIT: usize = 64;
+
+// The reader's limit on temporal operators.
+pub const OPERATOR_LIMIT: usize = 5;
+
+// Inputs at most, and outputs at most.
+pub const NAME_LIMIT: usize = 4;
+
+// States at most.
+pub const STATE_LIMIT: usize = 128;
+
+// Input numbers at most, and output numbers at most.
+pub const NUMBER_LIMIT: usize = 1 << NAME_LIMIT;
+
+// Letters at most.
+pub const LETTER_LIMIT: usize = NUMBER_LIMIT * NUMBER_LIMIT;
+
+// Coordinates of a valuation at most: the formula's own, and one for each temporal operator.
+pub const COORDINATE_LIMIT: usize = OPERATOR_LIMIT + 1;
+
+// Places of operators by their coordinates: a power of 2 above COORDINATE_LIMIT.
+pub const PLACE_COUNT: usize = 8;
+
+// Valuations at most.
+pub const VECTOR_LIMIT: usize = 1 << COORDINATE_LIMIT;
+
+// Pairs of valuations that differ in coordinate 0 only, at most.
+pub const PAIR_LIMIT: usize = VECTOR_LIMIT / 2;
+
+// Entries of the table: one for each letter and pair.
+pub const TABLE_SIZE: usize = LETTER_LIMIT * PAIR_LIMIT;

@@ -20,8 +20,8 @@ pub record IsGood (i : ℕ) (kind : ℕ → Kind) (text : List ℕ) (φ : Formul
   pub few-nodes : size φ ≤ nodeLimit
   pub few-operators : operators φ ≤ operatorLimit
 
--- the answer is that of the text: good, with the number of its nodes; over 255 bytes, whatever they are; or not over 255 bytes, and bad, with its place;
--- over 64 nodes; not over 64 nodes but over 5 temporal operators
+-- the answer is that of the text: good, with the number of its nodes; over the limit of bytes, whatever they are; or not over it, and bad, with its place;
+-- over the limit of nodes; not over that one but over the limit of temporal operators
 unfoldable pub ReadingOf : ℕ → (ℕ → Kind) → List ℕ → Reading → Type 0
 ReadingOf i kind text (Good n) = (φ : Formula) × IsGood i kind text φ × (n ≡ size φ)
 ReadingOf i kind text TooLong = textLimit < length text

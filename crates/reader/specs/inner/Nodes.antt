@@ -34,9 +34,13 @@ binaryCode conj = 10
 binaryCode disj = 11
 binaryCode impl = 12
 
+-- the kind and the left operand of a node's word are below this
+abbrev pub fieldSize : ℕ
+fieldSize = 256
+
 -- a node: its kind, the number of nodes up to its left operand and that one included (0 where it has not two operands), and its argument
 abbrev pub wordOf : ℕ → ℕ → ℕ → ℕ
-wordOf kind left argument = kind + 256 * left + 65536 * argument
+wordOf kind left argument = kind + fieldSize * left + fieldSize * fieldSize * argument
 
 -- the words of a formula before which n nodes stand, and whose first temporal operator has the coordinate k: the last operand of a node stands just before it.
 -- The argument is a name's bit, and of any other node the coordinate k that is next at its mark, which a temporal operator takes.

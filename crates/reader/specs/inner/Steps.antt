@@ -9,6 +9,7 @@ use lib.Seq.{sets}
 use Rattle.reader.specs.declared.marks.Kind.{Kind}
 use Rattle.reader.specs.declared.marks.Kind.the-variants.{Operand, Prefix, Infix, Open, Close, Other}
 use Rattle.reader.specs.declared.levels.Pos.{Pos}
+use Rattle.reader.specs.Limits.{nodeLimit, operatorLimit}
 use Rattle.reader.specs.Formula.{Formula, size, operators}
 use Rattle.reader.specs.Marks.{markKind}
 use Rattle.reader.specs.Grammar.{withoutBlanks, Derives}
@@ -85,8 +86,8 @@ pub record Readable (i l : ℕ) (text : List ℕ) (p : Pos) (room : ℕ) : Type 
   pub derived : Derives i markKind l taken formula
   pub follows : CanFollow l rest
   pub fits : p .nodes + size formula ≤ room
-  pub few : p .coordinate + operators formula ≤ 64
-  pub small : room ≤ 64
+  pub few : p .coordinate + operators formula ≤ operatorLimit + 1
+  pub small : room ≤ nodeLimit
 
 -- the formula at p has been read up to r, where the marks `rest` are left, and its nodes are written
 pub record Parsed (text : List ℕ) (p : Pos) (out : List ℕ) (r : Pos) (out′ rest : List ℕ) (φ : Formula) : Type 0 where

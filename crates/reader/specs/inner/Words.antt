@@ -8,6 +8,10 @@ use Rattle.reader.specs.declared.marks.Kind.the-variants.{Operand, Prefi
 use Rattle.reader.specs.Marks.{unaryOf, binaryOf}
 use Rattle.reader.specs.inner.Nodes.{unaryCode, binaryCode, wordOf}
 
+-- no node has a larger argument: the number of inputs and a name's place in its list are bytes
+abbrev pub argumentLimit : ℕ
+argumentLimit = 510
+
 -- the kind of an operand's node: false, true, a name
 unfoldable pub operandCode : ℕ → ℕ
 operandCode b = cond (eqb b 48) 0 (cond (eqb b 49) 1 2)

@@ -17,11 +17,11 @@ unfoldable pub operandCode : ℕ → ℕ
 operandCode b = cond (eqb b 48) 0 (cond (eqb b 49) 1 2)
 
 -- the argument of an operand's node: the coordinate k that is next for a constant, the letter bit for a name
-unfoldable pub operandArgument : ℕ → ℕ → ℕ → ℕ
+unfoldable pub operandArgument : (i b k : ℕ) → ℕ
 operandArgument i b k = cond (eqb b 48) k (cond (eqb b 49) k (cond (leb b 100) (b - 97) (i + (b - 112))))
 
 -- the node of the byte b, by its kind; 0 where the byte writes none
-abbrev pub nodeOf : ℕ → ℕ → ℕ → ℕ → Kind → ℕ
+abbrev pub nodeOf : (i b left k : ℕ) (kind : Kind) → ℕ
 nodeOf i b left k Operand = wordOf (operandCode b) left (operandArgument i b k)
 nodeOf i b left k Prefix = wordOf (unaryCode (unaryOf b)) left k
 nodeOf i b left k (Infix l) = wordOf (binaryCode (binaryOf b)) left k

@@ -20,7 +20,8 @@ use reader::reading::Reading;
 use reader::reading::check;
 use reader::reading::too_long;
 use reader::refusal::Refusal;
-use reader::refusal::rule_refusal;
+use reader::refusal::Subject;
+use reader::refusal::text_refusal;
 
 // What the tests come to before the automaton is built: a refusal, or nothing and the condition's mask.
 pub struct Checked {
@@ -60,7 +61,7 @@ fn check_texts(i: usize, o: usize, rule: &[u8], condition: &[u8]) -> Checked
     let reading = check(rule, i as u8, o as u8, true);
     let Reading::Good(_) = reading else {
         return Checked {
-            refusal: rule_refusal(reading),
+            refusal: text_refusal(Subject::Rule, reading),
             mask: 0,
         };
     };

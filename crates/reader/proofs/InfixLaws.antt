@@ -8,6 +8,7 @@ use lib.ListN.{length, getD, drop, set}
 use lib.Seq.{sets}
 use Rattle.reader.specs.declared.marks.Kind.the-variants.{Infix}
 use Rattle.reader.specs.declared.levels.Pos.{Pos}
+use Rattle.reader.specs.Limits.{nodeLimit, operatorLimit}
 use Rattle.reader.specs.Formula.{Formula, binary, size, operators, withBinary}
 use Rattle.reader.specs.Marks.{markKind, binaryOf}
 use Rattle.reader.specs.Grammar.{withoutBlanks, Derives, lower, infixed}
@@ -22,7 +23,7 @@ use Rattle.reader.proofs.FollowLaws.{follow-level, follow-down, follow-
 pub down : {i : ℕ} (l : ℕ) {text : List ℕ} {p : Pos} {room : ℕ} → Readable i (suc l) text p room → Readable i l text p room
 down {i} l {text} {p} {room} r = go (r .taken) (r .formula) (r .derived) (r .here) (r .fits) (r .few)
   where
-    go : (w : List ℕ) (φ : Formula) → Derives i markKind (suc l) w φ → withoutBlanks (drop (p .at) text) ≡ w ++ r .rest → p .nodes + size φ ≤ room → p .coordinate + operators φ ≤ 64 → Readable i l text p room
+    go : (w : List ℕ) (φ : Formula) → Derives i markKind (suc l) w φ → withoutBlanks (drop (p .at) text) ≡ w ++ r .rest → p .nodes + size φ ≤ room → p .coordinate + operators φ ≤ operatorLimit + 1 → Readable i l text p room
     go w φ (lower x) e f g =
         record { no-blank = r .no-blank; formula = φ; taken = w; rest = r .rest; here = e; derived = x; follows = follow-down l (r .rest) (r .follows); fits = f; few = g; small = r .small }
     go w φ (infixed {b = b} {u = u} {v = v} {φ = α} {ψ = β} k x y eφ) e f g =
@@ -40,12 +41,12 @@ down {i} l {text} {p} {room} r = go (r .taken) (r .formula) (r .derived) (r .her
         }
 
 -- the nodes written and the coordinate stay small
-counts : {i l : ℕ} {text : List ℕ} {p : Pos} {room : ℕ} → Readable i l text p room → {out : List ℕ} {q : Pos} {out′ : List ℕ} → Consumed i l text p out q out′ → (q .nodes ≤ room) × (q .coordinate ≤ 64) × (room ≤ 64)
+counts : {i l : ℕ} {text : List ℕ} {p : Pos} {room : ℕ} → Readable i l text p room → {out : List ℕ} {q : Pos} {out′ : List ℕ} → Consumed i l text p out q out′ → (q .nodes ≤ room) × (q .coordinate ≤ operatorLimit + 1) × (room ≤ nodeLimit)
 counts r k =
     let a = k .reads (r .taken) (r .rest) (r .formula) (r .here) (r .derived) (r .follows) in
     (omega (arith, a .nodes, r .fits), omega (arith, a .coordinate, r .few), r .small)
 
-pub coordinate-small : {i l : ℕ} {text : List ℕ} {p : Pos} {room : ℕ} → Readable i l text p room → {out : List ℕ} {q : Pos} {out′ : List ℕ} → Consumed i l text p out q out′ → q .coordinate ≤ 64
+pub coordinate-small : {i l : ℕ} {text : List ℕ} {p : Pos} {room : ℕ} → Readable i l text p room → {out : List ℕ} {q : Pos} {out′ : List ℕ} → Consumed i l text p out q out′ → q .coordinate ≤ operatorLimit + 1
 coordinate-small r k = counts r k .1
 
 -- where no infix mark of the level follows what was read of the level below, that is the whole formula
@@ -60,7 +61,7 @@ alone {i} l {text} {p} {out} {q} {out₁} first level n = record { past = first 
 
 -- a formula of the level below has been read up to q, and an infix mark of the level is there
 module _ {i : ℕ} (l : ℕ) {text : List ℕ} {p : Pos} {room : ℕ} (r : Readable i (suc l) text p room) {out : List ℕ} {q : Pos} {out₁ : List ℕ} (first : Consumed i l text p out q out₁) {m : ℕ} (level : LevelAt text (q .at) m) (here : m ≡ suc l) where
-  pub over-ready : NotBlank text (q .at) × ((q .at < length text) × (q .coordinate ≤ 64))
+  pub over-ready : NotBlank text (q .at) × ((q .at < length text) × (q .coordinate ≤ operatorLimit + 1))
   over-ready = (first .no-blank, (level .inside (omega arith), coordinate-small (down l r) first))
 
   -- o is past the mark
@@ -122,7 +123,7 @@ module _ {i : ℕ} (l : ℕ) {text : List ℕ} {p : Pos} {room : ℕ} (r : Reada
 
     -- the right operand has been read up to z
     module _ {z : Pos} {out₂ : List ℕ} (second : Consumed i (suc l) text o out₁ z out₂) where
-      pub put-ready : {now-room : ℕ} → now-room ≡ room → (q .at < length text) × ((q .nodes ≤ 64) × ((q .coordinate ≤ 64) × (z .nodes < now-room)))
+      pub put-ready : {now-room : ℕ} → now-room ≡ room → (q .at < length text) × ((q .nodes ≤ nodeLimit) × ((q .coordinate ≤ operatorLimit + 1) × (z .nodes < now-room)))
       put-ready e =
           let s = readable-operands in
           let n = second .reads (s .v) (r .rest) (s .β) (s .right-here) (s .right-derived) (r .follows) in

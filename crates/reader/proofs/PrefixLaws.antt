@@ -10,6 +10,7 @@ use lib.Seq.{sets}
 use Rattle.reader.specs.declared.marks.Kind.{Kind}
 use Rattle.reader.specs.declared.marks.Kind.the-variants.{Operand, Prefix, Open, Close}
 use Rattle.reader.specs.declared.levels.Pos.{Pos}
+use Rattle.reader.specs.Limits.{nodeLimit, operatorLimit}
 use Rattle.reader.specs.Formula.{Formula, unary, size, operators, withUnary}
 use Rattle.reader.specs.Marks.{markKind, unaryOf}
 use Rattle.reader.specs.Grammar.{withoutBlanks, Derives, operand, prefix, parens}
@@ -94,7 +95,7 @@ module _ (i : ℕ) {text : List ℕ} {p q : Pos} (mark : PastMark text p q) wher
         held-parsed : (rest : List ℕ) (φ : Formula) (h : Held rest φ) → Parsed text (inner p q) out z out₁ (h .b ∷ rest) φ
         held-parsed rest φ h = k .reads (h .v) (h .b ∷ rest) φ (h .here) (h .derived) (follow-close 4 (h .b) rest (h .close))
 
-        pub close-ready : NotBlank text (z .at) × ((z .at < length text) × (z .coordinate ≤ 64))
+        pub close-ready : NotBlank text (z .at) × ((z .at < length text) × (z .coordinate ≤ operatorLimit + 1))
         close-ready =
             let h = readable-held in
             (k .no-blank, (inside text (z .at) (h .b) (r .rest) (held-parsed (r .rest) (r .formula) h .left), coordinate-small within k))
@@ -155,7 +156,7 @@ module _ (i : ℕ) {text : List ℕ} {p q : Pos} (mark : PastMark text p q) wher
 
       -- the operand has been read up to z
       module _ {out : List ℕ} {z : Pos} {out₁ : List ℕ} (k : Consumed i 0 text q out z out₁) where
-        pub prefix-ready : {now-room : ℕ} → now-room ≡ room → (p .at < length text) × ((0 ≤ 64) × ((p .coordinate ≤ 64) × (z .nodes < now-room)))
+        pub prefix-ready : {now-room : ℕ} → now-room ≡ room → (p .at < length text) × ((0 ≤ nodeLimit) × ((p .coordinate ≤ operatorLimit + 1) × (z .nodes < now-room)))
         prefix-ready e =
             let h = readable-bound in
             let n = k .reads (h .v) (r .rest) (h .α) (h .here) (h .derived) (r .follows) in
@@ -186,7 +187,7 @@ module _ (i : ℕ) {text : List ℕ} {p q : Pos} (mark : PastMark text p q) wher
 
   -- ---- an operand
 
-  pub operand-ready : {room : ℕ} → Readable i 0 text p room → (p .at < length text) × ((0 ≤ 64) × ((p .coordinate ≤ 64) × (q .nodes < room)))
+  pub operand-ready : {room : ℕ} → Readable i 0 text p room → (p .at < length text) × ((0 ≤ nodeLimit) × ((p .coordinate ≤ operatorLimit + 1) × (q .nodes < room)))
   operand-ready r = (starts r, (omega arith, (omega (arith, r .few), omega (arith, size-pos (r .formula), r .fits, mark .nodes))))
 
   -- with its node written, it has been read

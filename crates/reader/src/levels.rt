@@ -2,10 +2,12 @@
 ghost use mathlib.Core.Path.{_≡_};
 ghost use Prim.Native.Nat.{_+_, _≤_, _<_};
 ghost use lib.ListN.{length, getD, set};
+ghost use Rattle.reader.specs.Limits.{nodeLimit, operatorLimit};
 ghost use Rattle.reader.specs.Marks.{markKind};
 ghost use Rattle.reader.specs.inner.Nodes.{wordOf};
-ghost use Rattle.reader.specs.inner.Words.{nodeOf};
+ghost use Rattle.reader.specs.inner.Words.{argumentLimit, nodeOf};
 ghost use Rattle.reader.specs.inner.Steps.{NotBlank, PastBlanks, LevelAt, PastMark, Readable, Consumed, isOpen, isPrefix};
+use crate::limits::FIELD_SIZE;
 use crate::marks::Kind;
 use crate::marks::infix_kind;
 use crate::marks::is_temporal;
@@ -58,15 +60,15 @@ fn level_at(text: &[u8], at: usize) -> u8
 
 // A node's word.
 fn word(kind: u8, left: usize, argument: usize) -> usize
-    requires { ⌜ (left ≤ 64) × (argument ≤ 510) ⌝ }
+    requires { ⌜ (left ≤ nodeLimit) × (argument ≤ argumentLimit) ⌝ }
     ensures { λ r. ⌜ r ≡ wordOf kind left argument ⌝ }
 {
-    (kind as usize) + 256 * left + 65536 * argument
+    (kind as usize) + FIELD_SIZE * left + FIELD_SIZE * FIELD_SIZE * argument
 }
 
 // The node of a mark, in a text with i inputs.
 fn node(b: u8, i: u8, left: usize, coordinate: usize) -> usize
-    requires { ⌜ (left ≤ 64) × (coordinate ≤ 64) ⌝ }
+    requires { ⌜ (left ≤ nodeLimit) × (coordinate ≤ operatorLimit + 1) ⌝ }
     ensures { λ r. ⌜ r ≡ nodeOf i b left coordinate (markKind b) ⌝ }
 {
     let k = kind_of(b);
@@ -82,7 +84,7 @@ fn node(b: u8, i: u8, left: usize, coordinate: usize) -> usize
 
 // The position past the mark at p.
 fn over(text: &[u8], p: Pos) -> Pos
-    requires { ⌜ (NotBlank (now text) (p .at)) × ((p .at < length (now text)) × (p .coordinate ≤ 64)) ⌝ }
+    requires { ⌜ (NotBlank (now text) (p .at)) × ((p .at < length (now text)) × (p .coordinate ≤ operatorLimit + 1)) ⌝ }
     ensures { λ r. ⌜ PastMark (now (text .entry)) p r ⌝ }
 {
     let at = p.at;
@@ -103,7 +105,7 @@ fn over(text: &[u8], p: Pos) -> Pos
 
 // Writes the node of the mark at p, whose operands have been read up to r; `left` is what its word says of the left one.
 fn put(text: &[u8], i: u8, p: Pos, left: usize, r: Pos, out: &mut [usize]) -> Pos
-    requires { ⌜ (p .at < length (now text)) × ((left ≤ 64) × ((p .coordinate ≤ 64) × (r .nodes < length (now out)))) ⌝ }
+    requires { ⌜ (p .at < length (now text)) × ((left ≤ nodeLimit) × ((p .coordinate ≤ operatorLimit + 1) × (r .nodes < length (now out)))) ⌝ }
     ensures result { λ s. ⌜ (s .at ≡ r .at) × ((s .nodes ≡ r .nodes + 1) × (s .coordinate ≡ r .coordinate)) ⌝ }
     ensures stored { λ _. ⌜ now (out .exit) ≡ set (now (out .entry)) (r .nodes) (nodeOf i (getD (now (text .entry)) (p .at) 0) left (p .coordinate) (markKind (getD (now (text .entry)) (p .at) 0))) ⌝ }
 {

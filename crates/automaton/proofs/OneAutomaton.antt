@@ -53,8 +53,7 @@ Built φ L n t a t′ a′ = Automaton φ L n t′ a′ × Cleared (n * L) (stat
 pub one-automaton : (L : ℕ) → 0 < L → (φ ψ : Formula) → φ ≡ ψ → (n m : ℕ) → n ≡ m → (t a t₁ a₁ t₂ a₂ : List ℕ)
     → Built φ L n t a t₁ a₁ → Built ψ L m t a t₂ a₂ → (t₁ ≡ t₂) × (a₁ ≡ a₂)
 one-automaton L pos φ ψ e n m f t a t₁ a₁ t₂ a₂ x y =
-    let z : Built φ L n t a t₂ a₂ = subst₂ (λ (χ : Formula) (k : ℕ). Built χ L k t a t₂ a₂) (sym e) (sym f) y in
-    (
+    let z : Built φ L n t a t₂ a₂ = subst₂ (λ (χ : Formula) (k : ℕ). Built χ L k t a t₂ a₂) (sym e) (sym f) y in (
       one-transitions (machineOf φ) (Satisfies φ) L stateLimit n t₁ a₁ t₂ a₂ (x .0) (z .0) pos (stateLimit * L) t (x .1) (z .1),
       one-accepting (machineOf φ) (Satisfies φ) L stateLimit n t₁ a₁ t₂ a₂ (x .0) (z .0) stateLimit a (x .2) (z .2),
     )

@@ -2,8 +2,8 @@
 ghost use Rattle.automaton.specs.Condition.{Conditioned};
 use crate::alphabet::bad_alphabet;
 use crate::alphabet::power;
-use crate::limits::NODE_LIMIT;
 use crate::mask::condition_mask;
+use reader::limits::NODE_LIMIT;
 use reader::reading::Reading;
 use reader::reading::read;
 use reader::reading::too_long;

@@ -18,48 +18,18 @@ use Rattle.automaton.specs.Trace.{Satisfies}
 use Rattle.automaton.specs.State.{start, accepts}
 use Rattle.automaton.specs.Discovery.{begin, states}
 use Rattle.automaton.specs.Automaton.{walk, Automaton}
-use Rattle.game.specs.Arena.{Arena, arena, next, goal}
-use Rattle.game.specs.Play.{Step, Legal, entered, run, reaches, letters, Along}
-use Rattle.game.specs.Strategy.{BySystem, ByEnvironment, SystemWins, EnvironmentWins}
-use Rattle.game.specs.inner.Rank.{Valid}
+use Rattle.plays.specs.Arena.{Arena, arena, next, goal}
+use Rattle.plays.specs.Play.{Step, Legal, entered, run, reaches, letters, Along}
+use Rattle.plays.specs.Strategy.{BySystem, ByEnvironment, SystemWins, EnvironmentWins}
+use Rattle.game.specs.inner.Game.{Valid}
 use Rattle.game.specs.Rule.{Satisfied, Can, Cannot}
-use Rattle.reader.proofs.BoolLaws.{on, clash, or-cases, or-true}
+use Rattle.reader.proofs.BoolLaws.{on, clash}
+use Rattle.plays.proofs.PlayLaws.{take-along, take-letters, reaches-beginning, beginning-reaches}
 use Rattle.game.proofs.IndexLaws.{letter-below}
 use Rattle.automaton.proofs.AlphabetLaws.{inputs-fit, outputs-fit}
 use Rattle.game.proofs.CheckLaws.{small-power}
 
--- a beginning of a play
 module _ (G : Arena) where
-  pub take-along : (R : ℕ → Step → Type 0) (s : ℕ) (p : List Step) (k : ℕ) → Along G R s p → Along G R s (take k p)
-  unfolding Along
-  take-along R s p zero h = tt
-  take-along R s [] (suc k) h = tt
-  take-along R s (a ∷ p) (suc k) h = (h .0, take-along R (entered G s a) p k (h .1))
-
-  pub take-letters : (p : List Step) (k : ℕ) → take k (letters G p) ≡ letters G (take k p)
-  unfolding letters
-  take-letters p zero = refl
-  take-letters [] (suc k) = refl
-  take-letters (a ∷ p) (suc k) = ap (λ (w : List ℕ). letterOf (G .inputs) (a .input) (a .output) ∷ w) (take-letters p k)
-
-  -- a play reaches a goal exactly when some beginning of it stands on one
-  reaches-beginning : (s : ℕ) (p : List Step) → reaches G s p ≡ true → (k : ℕ) × (0 < k) × (k ≤ length p) × (goal G (run G s (take k p)) ≡ true)
-  unfolding reaches run
-  reaches-beginning s [] e = absurd (mathlib.Core.Bool.false≢true e)
-  reaches-beginning s (a ∷ p) e =
-      ⊎-elim
-      (λ g. (1, omega arith, omega arith, g))
-      (λ h. let w = reaches-beginning (entered G s a) p h in (suc (w .0), omega arith, omega (arith, w .2), w .3))
-      (or-cases (goal G (entered G s a)) (reaches G (entered G s a) p) e)
-
-  beginning-reaches : (s : ℕ) (p : List Step) (k : ℕ) → 0 < k → k ≤ length p → goal G (run G s (take k p)) ≡ true → reaches G s p ≡ true
-  unfolding reaches run
-  beginning-reaches s p zero z l g = absurd (let z : ⊥ = omega arith in z)
-  beginning-reaches s [] (suc k) z l g = absurd (let z : ⊥ = omega arith in z)
-  beginning-reaches s (a ∷ p) (suc zero) z l g = rw g
-  beginning-reaches s (a ∷ p) (suc (suc k)) z l g =
-      rw (beginning-reaches (entered G s a) p (suc k) (omega arith) (omega arith) g) (or-true (goal G (entered G s a)))
-
   -- the transitions follow the letters as a play follows its steps
   walk-run : (s : ℕ) (p : List Step) → walk (G .transitions) (G .inputs * G .outputs) s (letters G p) ≡ run G s p
   unfolding walk run letters next

@@ -7,15 +7,15 @@ use mathlib.Core.Bool.{Bool, true, false}
 use mathlib.Core.List.{List, [], _∷_}
 use mathlib.Core.Logic.{_⊎_, ⊎-elim}
 use lib.ListN.{length}
-use Rattle.game.specs.Arena.{Arena, goal, holds}
-use Rattle.game.specs.Play.{Step, entered, run, reaches, Along}
-use Rattle.game.specs.Strategy.{systemByte, environmentByte, BySystem, ByEnvironment, SystemWins, EnvironmentWins}
-use Rattle.game.specs.Way.{SystemWay, EnvironmentWay, Outputs, Inputs, bySystem, byEnvironment, ordered, meeting, systemAfter, environmentAfter, meet, Chosen}
-use Rattle.game.specs.Endless.{first, inputs, Follows, Promised, Kept, CanEndless, Defeated, CannotEndless}
-use Rattle.game.specs.EndlessAnswer.{Reaching}
+use Rattle.plays.specs.Arena.{Arena, goal, holds}
+use Rattle.plays.specs.Play.{Step, entered, run, reaches, Along}
+use Rattle.plays.specs.Strategy.{systemByte, environmentByte, BySystem, ByEnvironment, SystemWins, EnvironmentWins}
+use Rattle.plays.specs.Way.{SystemWay, EnvironmentWay, Outputs, Inputs, bySystem, byEnvironment, ordered, meeting, systemAfter, environmentAfter, meet, Chosen}
+use Rattle.plays.specs.Endless.{first, inputs, Follows, Promised, Reaching, Kept, CanEndless, Defeated, CannotEndless}
 use Rattle.reader.proofs.BoolLaws.{on, clash, or-left}
-use Rattle.game.proofs.Determined.{reaches-later, system-later, environment-later}
-use Rattle.game.proofs.EndlessLaws.{assumed, honoured}
+use Rattle.plays.proofs.PlayLaws.{reaches-later}
+use Rattle.plays.proofs.Determined.{system-later, environment-later}
+use Rattle.plays.proofs.EndlessLaws.{assumed, honoured}
 
 -- the outputs are the way's
 chosen-meet : (α : EnvironmentWay) (ω : SystemWay) (k : ℕ) → Chosen ω (first (meet α ω) k)

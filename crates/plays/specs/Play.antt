@@ -6,7 +6,7 @@ use mathlib.Core.Bool.{Bool, true, false, cond, _||_}
 use mathlib.Core.List.{List, [], _∷_, _++_}
 use lib.ListN.{length}
 use Rattle.automaton.specs.Alphabet.{letterOf}
-use Rattle.game.specs.Arena.{Arena, next, goal}
+use Rattle.plays.specs.Arena.{Arena, next, goal}
 
 -- a step: the environment's input, then the system's output
 pub record Step : Type 0 where

@@ -8,13 +8,13 @@ use mathlib.Core.List.{List, [], _∷_, _++_, append-nil}
 use mathlib.Core.Logic.{_⊎_, ⊎-elim}
 use native.Mathlib.Omega.{arith}
 use lib.ListN.{length, take}
-use Rattle.game.specs.Arena.{Arena, holds, lacks}
-use Rattle.game.specs.Play.{Step, count, Every, InRow}
-use Rattle.game.specs.Strategy.{Assumed, Failed}
-use Rattle.game.specs.Endless.{first, inputs, Again, Finally, Promised, Omniscience, Honoured}
+use Rattle.plays.specs.Arena.{Arena, holds, lacks}
+use Rattle.plays.specs.Play.{Step, count, Every, InRow}
+use Rattle.plays.specs.Strategy.{Assumed, Failed}
+use Rattle.plays.specs.Endless.{first, inputs, Again, Finally, Promised, Omniscience, Honoured}
 use Rattle.reader.proofs.BoolLaws.{on, not-false→}
-use Rattle.game.proofs.CaseLaws.{below-or}
-use Rattle.game.proofs.Determined.{count-append}
+use Rattle.plays.proofs.CaseLaws.{below-or}
+use Rattle.plays.proofs.PlayLaws.{count-append}
 
 -- ---- beginnings
 

@@ -8,10 +8,10 @@ use mathlib.Core.Bool.{Bool, true, false}
 use mathlib.Core.List.{List, [], _∷_}
 use mathlib.Core.Logic.{_⊎_}
 use lib.ListN.{length}
-use Rattle.game.specs.Arena.{Arena, holds}
-use Rattle.game.specs.Play.{Step, Along}
-use Rattle.game.specs.Strategy.{BySystem, ByEnvironment, Failed}
-use Rattle.game.specs.Way.{SystemWay, EnvironmentWay, Outputs, Inputs, bySystem, byEnvironment, ordered, meet, Chosen}
+use Rattle.plays.specs.Arena.{Arena, holds}
+use Rattle.plays.specs.Play.{Step, reaches, Along}
+use Rattle.plays.specs.Strategy.{BySystem, ByEnvironment, Failed}
+use Rattle.plays.specs.Way.{SystemWay, EnvironmentWay, Outputs, Inputs, bySystem, byEnvironment, ordered, meet, Chosen}
 
 -- the first k steps of a play without end
 unfoldable pub first : (ℕ → Step) → ℕ → List Step
@@ -48,6 +48,10 @@ Omniscience = (d : ℕ → Bool) → ((j : ℕ) × (d j ≡ true)) ⊎ ((j : ℕ
 abbrev pub Honoured : Bool → Arena → (ℕ → ℕ) → Type 0
 Honoured true G x = Promised true G x
 Honoured false G x = ((Promised false G x → ⊥) → ⊥) × (Omniscience → Promised false G x)
+
+-- a step of the beginning enters a goal
+abbrev pub Reaching : Arena → ℕ → List Step → Type 0
+Reaching G s p = reaches G s p ≡ true
 
 -- a beginning of the play without end is done, by which `Done` says that it does what it has to, and up to there it follows the system's strategy: so the
 -- strategy had an output wherever one was needed

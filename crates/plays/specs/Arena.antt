@@ -9,8 +9,8 @@ use lib.Dec.{eqb}
 use lib.ListN.{getD}
 use Rattle.automaton.specs.Alphabet.{letterOf}
 use Rattle.automaton.specs.Bits.{bit}
-use Rattle.game.specs.declared.answer.Mode.{Mode}
-use Rattle.game.specs.declared.answer.Mode.the-variants.{Fair, Stable}
+use Rattle.plays.specs.declared.mode.Mode.{Mode}
+use Rattle.plays.specs.declared.mode.Mode.the-variants.{Fair, Stable}
 
 -- n states, 2^i input and 2^o output numbers, the transitions, the accepting flags and the assumption as a mask: the specification's moves, marks and condition
 pub record Arena : Type 0 where

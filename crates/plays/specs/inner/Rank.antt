@@ -1,33 +1,13 @@
 -- Ranks: the certificates by which a game is solved, a number for each state and player, each a statement about one step.
 -- A player is true for the system and false for the environment.
 -- Assumes nothing.
-use Prim.Native.Nat.{ℕ, _*_, _<_, _≤_}
+use Prim.Native.Nat.{ℕ, _<_, _≤_}
 use mathlib.Core.Path.{_≡_}
 use mathlib.Core.Bool.{Bool, true, false, not}
 use mathlib.Core.List.{List}
 use mathlib.Core.Logic.{_⊎_}
-use lib.ListN.{length, getD}
-use Rattle.automaton.specs.Limits.{stateLimit}
-use Rattle.game.specs.declared.arena.Game.{Game}
-use Rattle.game.specs.Arena.{Arena, next, goal, holds, lacks, moveIndex}
-
--- the arena that a game's numbers and two buffers describe
-abbrev pub arenaOf : Game → List ℕ → List ℕ → Arena
-arenaOf g transitions accepting =
-    record { states = g .states; inputs = g .inputs; outputs = g .outputs; transitions = transitions; accepting = accepting; mask = g .mask }
-
--- the sizes are in range and every transition leads to a state
-pub record Closed (states inputs outputs : ℕ) (transitions : List ℕ) : Type 0 where
-  pub states-fit : states ≤ stateLimit
-  pub inputs-fit : inputs ≤ 16
-  pub outputs-fit : outputs ≤ 16
-  pub long : states * (inputs * outputs) ≤ length transitions
-  pub closed : (k : ℕ) → k < states * (inputs * outputs) → getD transitions k 0 < states
-
--- an arena that the solver may be given
-pub record Valid (G : Arena) : Type 0 where
-  pub moving : Closed (G .states) (G .inputs) (G .outputs) (G .transitions)
-  pub accepting-long : G .states ≤ length (G .accepting)
+use lib.ListN.{getD}
+use Rattle.plays.specs.Arena.{Arena, next, goal, holds, lacks}
 
 -- the inputs at which the player's rank has to fall: with the condition for the system, without it for the environment
 abbrev pub judged : Arena → Bool → ℕ → Bool
@@ -48,6 +28,15 @@ Forces G false s R = (x : ℕ) × (x < G .inputs) × ((y : ℕ) → y < G .outpu
 abbrev pub Falls : Arena → Bool → Bool → List ℕ → ℕ → ℕ → ℕ → Type 0
 Falls G player steady r s x t = (0 < getD r t 0) × (judged G player x ≡ true → getD r t 0 < getD r s 0) × (steady ≡ true → getD r t 0 ≤ getD r s 0)
 
+-- the system's ranks allow output y for input x on state s
+abbrev pub AllowedOutput : Bool → Arena → List ℕ → ℕ → ℕ → ℕ → Type 0
+AllowedOutput fair G r s x y = (y < G .outputs) × Safe G true (next G s x y) (Falls G true fair r s x (next G s x y))
+
+-- the environment's ranks allow input x on state s
+abbrev pub AllowedInput : Bool → Arena → List ℕ → ℕ → ℕ → Type 0
+AllowedInput fair G r s x =
+    (x < G .inputs) × ((y : ℕ) → y < G .outputs → Safe G false (next G s x y) (Falls G false (not fair) r s x (next G s x y)))
+
 -- a player's ranks, 0 for none, are a certificate
 pub record Ranked (G : Arena) (player steady : Bool) (r : List ℕ) : Type 0 where
   pub within : (t : ℕ) → 0 < getD r t 0 → t < G .states
@@ -59,8 +48,3 @@ pub record Ranking (fair : Bool) (G : Arena) (system environment : List ℕ) : T
   pub of-system : Ranked G true fair system
   pub of-environment : Ranked G false (not fair) environment
   pub each : (s : ℕ) → s < G .states → ((0 < getD system s 0) × (getD environment s 0 ≡ 0)) ⊎ ((getD system s 0 ≡ 0) × (0 < getD environment s 0))
-
--- r is the state that input x and output y lead to from s, whatever the flags
-pub record Entered (g : Game) (transitions : List ℕ) (s x y r : ℕ) : Type 0 where
-  pub is : (accepting : List ℕ) → r ≡ next (arenaOf g transitions accepting) s x y
-  pub below : r < g .states

@@ -8,44 +8,12 @@ use mathlib.Core.List.{List, [], _∷_, _++_}
 use mathlib.Core.Logic.{_⊎_, ⊎-elim}
 use native.Mathlib.Omega.{arith}
 use lib.ListN.{length, getD}
-use Rattle.game.specs.Arena.{Arena, next, goal}
-use Rattle.game.specs.Play.{Step, entered, run, reaches, Along, count, Every, InRow}
-use Rattle.game.specs.Strategy.{systemByte, environmentByte, BySystem, ByEnvironment, Assumed, Failed, SystemWins, EnvironmentWins}
-use Rattle.game.specs.inner.Rank.{judged, Safe, Falls}
-use Rattle.game.specs.inner.Bytes.{AllowedOutput, AllowedInput}
-use Rattle.reader.proofs.BoolLaws.{decided, clash, not-false-is-true, or-left, or-right}
-
--- a play taken apart in two
-module _ (G : Arena) (R : ℕ → Step → Type 0) where
-  along-left : (s : ℕ) (p q : List Step) → Along G R s (p ++ q) → Along G R s p
-  unfolding Along
-  along-left s [] q h = tt
-  along-left s (a ∷ p) q h = (h .0, along-left (entered G s a) p q (h .1))
-
-  along-right : (s : ℕ) (p q : List Step) → Along G R s (p ++ q) → Along G R (run G s p) q
-  unfolding Along run
-  along-right s [] q h = h
-  along-right s (a ∷ p) q h = along-right (entered G s a) p q (h .1)
-
-module _ (G : Arena) where
-  -- a play that reaches no goal enters none by its first step, and reaches none by the others
-  first-avoids : (s : ℕ) (a : Step) (p : List Step) → reaches G s (a ∷ p) ≡ false → goal G (entered G s a) ≡ false
-  unfolding reaches
-  first-avoids s a p e = or-left (goal G (entered G s a)) (reaches G (entered G s a) p) e
-
-  others-avoid : (s : ℕ) (a : Step) (p : List Step) → reaches G s (a ∷ p) ≡ false → reaches G (entered G s a) p ≡ false
-  unfolding reaches
-  others-avoid s a p e = or-right (goal G (entered G s a)) (reaches G (entered G s a) p) e
-
-  avoids-left : (s : ℕ) (p q : List Step) → reaches G s (p ++ q) ≡ false → reaches G s p ≡ false
-  unfolding reaches
-  avoids-left s [] q e = refl
-  avoids-left s (a ∷ p) q e = rw (first-avoids s a (p ++ q) e) (avoids-left (entered G s a) p q (others-avoid s a (p ++ q) e))
-
-  avoids-right : (s : ℕ) (p q : List Step) → reaches G s (p ++ q) ≡ false → reaches G (run G s p) q ≡ false
-  unfolding run
-  avoids-right s [] q e = e
-  avoids-right s (a ∷ p) q e = avoids-right (entered G s a) p q (others-avoid s a (p ++ q) e)
+use Rattle.plays.specs.Arena.{Arena, next, goal}
+use Rattle.plays.specs.Play.{Step, entered, run, reaches, Along, count, Every, InRow}
+use Rattle.plays.specs.Strategy.{systemByte, environmentByte, BySystem, ByEnvironment, Assumed, Failed, SystemWins, EnvironmentWins}
+use Rattle.plays.specs.inner.Rank.{judged, Safe, Falls, AllowedOutput, AllowedInput}
+use Rattle.reader.proofs.BoolLaws.{decided, clash, not-false-is-true}
+use Rattle.plays.proofs.PlayLaws.{along-left, along-right, first-avoids, others-avoid, avoids-left, avoids-right}
 
 -- n inputs of the play pass c: in all where `steady`, and else in a row
 abbrev Often : Bool → (ℕ → Bool) → ℕ → List Step → Type 0
@@ -61,14 +29,14 @@ module _ (G : Arena) (R : ℕ → Step → Type 0) (player steady : Bool) (r : L
     (falls : (s : ℕ) (a : Step) → 0 < getD r s 0 → R s a → goal G (entered G s a) ≡ false → Falls G player steady r s (a .input) (entered G s a))
     (bound : (s : ℕ) → getD r s 0 ≤ G .states) where
   -- a play that reaches no goal stands on a state with a rank
-  stays : (s : ℕ) (p : List Step) → 0 < getD r s 0 → Along G R s p → reaches G s p ≡ false → 0 < getD r (run G s p) 0
+  pub stays : (s : ℕ) (p : List Step) → 0 < getD r s 0 → Along G R s p → reaches G s p ≡ false → 0 < getD r (run G s p) 0
   unfolding Along run
   stays s [] w h e = w
   stays s (a ∷ p) w h e =
       stays (entered G s a) p (falls s a w (h .0) (first-avoids G s a p e) .0) (h .1) (others-avoid G s a p e)
 
   -- steps all of which are judged take as much off the rank as they are many
-  row-falls : (s : ℕ) (p : List Step) → 0 < getD r s 0 → Along G R s p → reaches G s p ≡ false → Every (judged G player) p → length p + getD r (run G s p) 0 ≤ getD r s 0
+  pub row-falls : (s : ℕ) (p : List Step) → 0 < getD r s 0 → Along G R s p → reaches G s p ≡ false → Every (judged G player) p → length p + getD r (run G s p) 0 ≤ getD r s 0
   unfolding Along run Every
   row-falls s [] w h e v = omega arith
   row-falls s (a ∷ p) w h e v =
@@ -77,7 +45,7 @@ module _ (G : Arena) (R : ℕ → Step → Type 0) (player steady : Bool) (r : L
       omega (arith, rest, d .1 (v .0))
 
   -- and so do the judged ones among others, where the ranks are steady
-  count-falls : steady ≡ true → (s : ℕ) (p : List Step) → 0 < getD r s 0 → Along G R s p → reaches G s p ≡ false → count (judged G player) p + getD r (run G s p) 0 ≤ getD r s 0
+  pub count-falls : steady ≡ true → (s : ℕ) (p : List Step) → 0 < getD r s 0 → Along G R s p → reaches G s p ≡ false → count (judged G player) p + getD r (run G s p) 0 ≤ getD r s 0
   unfolding Along run count
   count-falls t s [] w h e = omega arith
   count-falls t s (a ∷ p) w h e =

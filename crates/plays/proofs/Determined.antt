@@ -12,34 +12,13 @@ use native.Mathlib.Omega.{arith}
 use native.Mathlib.Nat.{suc-mul}
 use lib.ListN.{length, getD, take, drop, take-append-drop, length-take, length-drop}
 use lib.Seq.{length-take-le}
-use Rattle.game.specs.Arena.{Arena, goal, holds, lacks}
-use Rattle.game.specs.Play.{Step, entered, run, reaches, Along, count, Every, InRow}
-use Rattle.game.specs.Strategy.{systemByte, environmentByte, BySystem, ByEnvironment, Assumed, Failed, SystemWins, EnvironmentWins}
-use Rattle.reader.proofs.BoolLaws.{on, clash, or-left, or-right, or-cases, not-false-is-true}
+use Rattle.plays.specs.Arena.{Arena, goal, holds, lacks}
+use Rattle.plays.specs.Play.{Step, entered, run, reaches, Along, count, Every, InRow}
+use Rattle.plays.specs.Strategy.{systemByte, environmentByte, BySystem, ByEnvironment, Assumed, Failed, SystemWins, EnvironmentWins}
+use Rattle.reader.proofs.BoolLaws.{on, clash, or-left}
+use Rattle.plays.proofs.PlayLaws.{reaches-later, row-later, row-first, count-append}
 
 -- ---- stretches of steps
-
--- a row of a play is a row of a longer one
-row-later : (c : ℕ → Bool) (k : ℕ) (u p : List Step) → InRow c k p → InRow c k (u ++ p)
-row-later c k u p r =
-    record {
-      before = u ++ r .before;
-      row = r .row;
-      rest = r .rest;
-      whole = ap (λ (q : List Step). u ++ q) (r .whole) ∙ sym (append-assoc u (r .before) (r .row ++ r .rest));
-      long = r .long;
-      all = r .all;
-    }
-
-row-first : (c : ℕ → Bool) (k : ℕ) (u p : List Step) → length u ≡ k → Every c u → InRow c k (u ++ p)
-row-first c k u p l e = record { before = []; row = u; rest = p; whole = refl; long = l; all = e }
-
-pub count-append : (c : ℕ → Bool) (u p : List Step) → count c (u ++ p) ≡ count c u + count c p
-unfolding count
-count-append c [] p = omega arith
-count-append c (a ∷ u) p =
-    let ih = count-append c u p in
-    on (c (a .input)) (λ e. rw e (omega arith)) (λ e. rw e (omega arith))
 
 -- every step of a stretch passes c, or one passes the opposite test
 every-or-one : (c d : ℕ → Bool) → ((x : ℕ) → c x ≡ false → d x ≡ true) → (u : List Step) → Every c u ⊎ (0 < count d u)
@@ -79,10 +58,6 @@ failed-later : (fair : Bool) (G : Arena) (a : Step) (p : List Step) → Failed f
 unfolding count
 failed-later true G a p h = row-later (lacks G) (G .states) (a ∷ []) p h
 failed-later false G a p h = on (lacks G (a .input)) (λ e. rw e (omega arith)) (λ e. rw e h)
-
-pub reaches-later : (G : Arena) (s : ℕ) (a : Step) (p : List Step) → goal G (entered G s a) ≡ false → reaches G s (a ∷ p) ≡ reaches G (entered G s a) p
-unfolding reaches
-reaches-later G s a p e = rw e
 
 module _ (fair : Bool) (G : Arena) where
   pub system-later : (σ : List ℕ) (s : ℕ) (a : Step) → BySystem G σ s a → goal G (entered G s a) ≡ false → SystemWins fair G σ s → SystemWins fair G σ (entered G s a)

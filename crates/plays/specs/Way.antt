@@ -5,9 +5,9 @@ use Prim.Native.Nat.{ℕ, zero, suc, _<_}
 use mathlib.Core.Path.{_≡_}
 use mathlib.Core.List.{List, [], _∷_}
 use lib.ListN.{length}
-use Rattle.game.specs.Arena.{Arena}
-use Rattle.game.specs.Play.{Step, run}
-use Rattle.game.specs.Strategy.{systemByte, environmentByte}
+use Rattle.plays.specs.Arena.{Arena}
+use Rattle.plays.specs.Play.{Step, run}
+use Rattle.plays.specs.Strategy.{systemByte, environmentByte}
 
 -- a way of the system: an output for the steps so far and the input
 abbrev pub SystemWay : Type 0

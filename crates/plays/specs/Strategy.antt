@@ -6,8 +6,8 @@ use mathlib.Core.Path.{_≡_}
 use mathlib.Core.Bool.{Bool, true, false}
 use mathlib.Core.List.{List}
 use lib.ListN.{getD}
-use Rattle.game.specs.Arena.{Arena, holds, lacks}
-use Rattle.game.specs.Play.{Step, Legal, run, reaches, Along, count, InRow}
+use Rattle.plays.specs.Arena.{Arena, holds, lacks}
+use Rattle.plays.specs.Play.{Step, Legal, run, reaches, Along, count, InRow}
 
 -- the system's byte for state s and input x
 abbrev pub systemByte : Arena → List ℕ → ℕ → ℕ → ℕ

@@ -10,14 +10,20 @@ use native.Mathlib.Nat.{mul-le-mul-right, mul-pos, div-add-mod', div-lt-iff-lt-m
 use native.Mathlib.Omega.{arith}
 use lib.ListN.{length, getD, take}
 use lib.Pow.{pow-add, pow-pos}
+use Rattle.machine.specs.Letters.{Trace}
+use Rattle.machine.specs.Machine.{Machine}
+use Rattle.machine.specs.Run as machine
+use Rattle.machine.specs.Discovery.{begin}
+use Rattle.machine.specs.Automaton as automata
+use Rattle.machine.specs.Automaton.{walk}
 use Rattle.reader.specs.Formula.{Formula}
 use Rattle.automaton.specs.Limits.{stateLimit}
 use Rattle.automaton.specs.Alphabet.{badAlphabet, Letters, letterCount, letterOf}
 use Rattle.automaton.specs.Bits.{one}
 use Rattle.automaton.specs.Trace.{Satisfies}
 use Rattle.automaton.specs.State.{start, accepts}
-use Rattle.automaton.specs.Discovery.{begin, states}
-use Rattle.automaton.specs.Automaton.{walk, Automaton}
+use Rattle.automaton.specs.Discovery.{states}
+use Rattle.automaton.specs.Automaton.{Automaton}
 use Rattle.plays.specs.Arena.{Arena, arena, next, goal}
 use Rattle.plays.specs.Play.{Step, Legal, entered, run, reaches, letters, Along}
 use Rattle.plays.specs.Strategy.{BySystem, ByEnvironment, SystemWins, EnvironmentWins}
@@ -32,7 +38,7 @@ use Rattle.game.proofs.CheckLaws.{small-power}
 module _ (G : Arena) where
   -- the transitions follow the letters as a play follows its steps
   walk-run : (s : ℕ) (p : List Step) → walk (G .transitions) (G .inputs * G .outputs) s (letters G p) ≡ run G s p
-  unfolding walk run letters next
+  unfolding machine.run run letters next
   walk-run s [] = refl
   walk-run s (a ∷ p) = walk-run (entered G s a) p
 
@@ -45,8 +51,9 @@ module _ (G : Arena) where
       (letter-below (G .inputs) (G .outputs) (a .input) (a .output) (l .0) (l .1), steps-letters R legal (entered G s a) p (h .1))
 
 -- the start is a state
-pub some-state : {φ : Formula} {L n : ℕ} {transitions flags : List ℕ} → Automaton φ L n transitions flags → 0 < n
-some-state {φ} automaton = let w = automaton .numbering .complete (start φ) begin in omega (arith, w .1, automaton .count)
+pub some-state : {S : Type 0} {M : Machine S} {Good : Trace → Type 0} {L limit n : ℕ} {transitions flags : List ℕ}
+    → automata.Automaton M Good L limit n transitions flags → 0 < n
+some-state {M = M} automaton = let w = automaton .numbering .complete (M .first) begin in omega (arith, w .1, automaton .count)
 
 -- The arena is that of the formula's automaton, and R allows only steps in range.
 module _ (φ : Formula) (G : Arena) (automaton : Automaton φ (G .inputs * G .outputs) (G .states) (G .transitions) (G .accepting))
@@ -62,7 +69,7 @@ module _ (φ : Formula) (G : Arena) (automaton : Automaton φ (G .inputs * G .ou
   goal-flag : (s : ℕ) → s < G .states → goal G s ≡ true → getD (G .accepting) s 0 ≡ 1
   unfolding goal
   goal-flag s l g =
-      on (accepts φ (getD (states φ (G .inputs * G .outputs)) s 0))
+      on (accepts φ (getD (states φ (G .inputs * G .outputs)) s (start φ)))
       (λ t. automaton .marked s l ∙ ap one t)
       (λ f. clash (goal G s) g (rw (automaton .marked s l ∙ ap one f)))
 

@@ -17,7 +17,8 @@ use Rattle.reader.specs.Refusal.{numberOf, placeOf, afterRule, afterCondition}
 use Rattle.automaton.specs.Limits.{stateLimit}
 use Rattle.automaton.specs.Alphabet.{badAlphabet, letterCount}
 use Rattle.automaton.specs.Trace.{Satisfies}
-use Rattle.automaton.specs.Automaton.{Automaton, Cleared}
+use Rattle.automaton.specs.Automaton.{Automaton}
+use Rattle.automaton.specs.Buffer.{Cleared}
 use Rattle.automaton.specs.Construction.{CountOf, shortAutomaton, Over}
 use Rattle.automaton.specs.Condition.{maskOf, Judges}
 use Rattle.game.specs.declared.answer.Answer.{Answer}

@@ -13,7 +13,8 @@ use Rattle.reader.specs.declared.reading.Reading.the-variants.{Good, Too
 use Rattle.reader.specs.declared.refusal.Subject.{Subject}
 use Rattle.reader.specs.declared.refusal.Subject.the-variants.{Rule, Condition}
 use Rattle.reader.specs.declared.refusal.Refusal.{Refusal}
-use Rattle.reader.specs.declared.refusal.Refusal.the-variants.{Nothing, Alphabet, TextLength, Buffer, RuleText, RuleNodes, RuleOperators, ConditionText, ConditionNodes, StateCount, GivenCount, Move, State, Value}
+use Rattle.reader.specs.declared.refusal.Refusal.the-variants.{Nothing, Alphabet, TextLength, Buffer, RuleText, RuleNodes, RuleOperators}
+use Rattle.reader.specs.declared.refusal.Refusal.the-variants.{ConditionText, ConditionNodes, StateCount, GivenCount, Move, State, Value}
 use Rattle.reader.specs.Refusal.{numberOf, isNothing, afterText, afterRule, afterCondition}
 use Rattle.reader.proofs.reading.Reading.{the-type}
 
@@ -68,7 +69,8 @@ text-refused s TooLong h = refuses s TooLong TextLength (λ later. refl) refl (d
 text-refused Rule (Bad k) h = refuses Rule (Bad k) (RuleText k) (λ later. refl) refl (differs (RuleText k) StateCount (λ e. omega arith))
 text-refused Condition (Bad k) h = refuses Condition (Bad k) (ConditionText k) (λ later. refl) refl (differs (ConditionText k) StateCount (λ e. omega arith))
 text-refused Rule TooManyNodes h = refuses Rule TooManyNodes RuleNodes (λ later. refl) refl (differs RuleNodes StateCount (λ e. omega arith))
-text-refused Condition TooManyNodes h = refuses Condition TooManyNodes ConditionNodes (λ later. refl) refl (differs ConditionNodes StateCount (λ e. omega arith))
+text-refused Condition TooManyNodes h =
+    refuses Condition TooManyNodes ConditionNodes (λ later. refl) refl (differs ConditionNodes StateCount (λ e. omega arith))
 text-refused Rule TooManyOperators h = refuses Rule TooManyOperators RuleOperators (λ later. refl) refl (differs RuleOperators StateCount (λ e. omega arith))
 text-refused Condition TooManyOperators h =
     refuses Condition TooManyOperators ConditionNodes (λ later. refl) refl (differs ConditionNodes StateCount (λ e. omega arith))

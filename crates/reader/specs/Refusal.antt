@@ -1,4 +1,5 @@
--- The refusals (specification, "Refusals"): the declared type `Refusal`, one case for each row of the specification's table that a call of the library can return.
+-- The refusals (specification, "Refusals"): the declared type `Refusal`, one case for each row of the specification's table that a call of the
+-- library can return.
 -- Assumes nothing.
 use Prim.Native.Nat.{ℕ}
 use mathlib.Core.Bool.{Bool}
@@ -8,22 +9,8 @@ use Rattle.reader.specs.declared.reading.Reading.the-variants.{Good, Too
 use Rattle.reader.specs.declared.refusal.Subject.{Subject}
 use Rattle.reader.specs.declared.refusal.Subject.the-variants.{Rule, Condition}
 use Rattle.reader.specs.declared.refusal.Refusal.{Refusal}
-use Rattle.reader.specs.declared.refusal.Refusal.the-variants.{
-  Nothing,
-  Alphabet,
-  TextLength,
-  Buffer,
-  RuleText,
-  RuleNodes,
-  RuleOperators,
-  ConditionText,
-  ConditionNodes,
-  StateCount,
-  GivenCount,
-  Move,
-  State,
-  Value,
-}
+use Rattle.reader.specs.declared.refusal.Refusal.the-variants.{Nothing, Alphabet, TextLength, Buffer, RuleText, RuleNodes, RuleOperators}
+use Rattle.reader.specs.declared.refusal.Refusal.the-variants.{ConditionText, ConditionNodes, StateCount, GivenCount, Move, State, Value}
 
 -- the specification's number of a refusal; 0 for none, which is what a served call has
 abbrev pub numberOf : Refusal → ℕ

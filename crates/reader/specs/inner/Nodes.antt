@@ -10,7 +10,8 @@ use Rattle.reader.specs.declared.marks.Kind.{Kind}
 use Rattle.reader.specs.declared.reading.Reading.{Reading}
 use Rattle.reader.specs.declared.reading.Reading.the-variants.{Good, TooLong, Bad, TooManyNodes, TooManyOperators}
 use Rattle.reader.specs.Text.{Text}
-use Rattle.reader.specs.Formula.{Unary, neg, next, weak, eventually, always, Binary, until, release, conj, disj, impl, Formula, constant, name, unary, binary, size, withUnary, withBinary, operators}
+use Rattle.reader.specs.Formula.{Unary, neg, next, weak, eventually, always, Binary, until, release, conj, disj, impl}
+use Rattle.reader.specs.Formula.{Formula, constant, name, unary, binary, size, withUnary, withBinary, operators}
 use Rattle.reader.specs.Reading.{IsGood}
 
 -- the kind of a node: 0 false, 1 true, 2 a name, 3 to 7 ! X N F G, 8 to 12 U R & | >

@@ -3,9 +3,11 @@
 use Prim.Native.Nat.{ℕ, _+_, _-_}
 use mathlib.Core.Bool.{cond}
 use lib.Dec.{eqb, leb}
+use lib.ListN.{getD}
 use Rattle.reader.specs.declared.marks.Kind.{Kind}
 use Rattle.reader.specs.declared.marks.Kind.the-variants.{Operand, Prefix, Infix, Open, Close, Other}
-use Rattle.reader.specs.Marks.{unaryOf, binaryOf}
+use Rattle.reader.specs.Text.{Text}
+use Rattle.reader.specs.Marks.{markKind, unaryOf, binaryOf}
 use Rattle.reader.specs.inner.Nodes.{unaryCode, binaryCode, wordOf}
 
 -- no node has a larger argument: the number of inputs and a name's place in its list are bytes
@@ -28,3 +30,7 @@ nodeOf i b left k (Infix l) = wordOf (binaryCode (binaryOf b)) left k
 nodeOf i b left k Open = 0
 nodeOf i b left k Close = 0
 nodeOf i b left k Other = 0
+
+-- the node of the mark at a place of the text
+abbrev pub nodeAt : (i : ℕ) (text : Text) (at left k : ℕ) → ℕ
+nodeAt i text at left k = nodeOf i (getD text at 0) left k (markKind (getD text at 0))

@@ -4,7 +4,8 @@ use mathlib.Core.Path.{_≡_, refl, sym, ap, ap₂, _∙_, subst}
 use mathlib.Core.Bool.{Bool, true, false, not, _&&_, _||_}
 use mathlib.Core.List.{List, [], _∷_}
 use mathlib.Core.Logic.{⊎-elim}
-use native.Mathlib.Nat.{mul-add-mod-self-right, mod-eq-of-lt, pow-suc, mul-comm, mul-assoc, add-comm, zero-lt-suc, le-refl, lt-of-lt-of-le, le-of-suc-le-suc, not-suc-le-zero, eq-or-lt-of-le, le-step, add-mul-div-right, add-mul-mod-self-right, div-eq-of-lt, sub-add-cancel, zero-add, suc-add, div-one}
+use native.Mathlib.Nat.{mul-add-mod-self-right, mod-eq-of-lt, pow-suc, mul-comm, mul-assoc, add-comm, le-refl, lt-of-lt-of-le}
+use native.Mathlib.Nat.{le-of-suc-le-suc, not-suc-le-zero, eq-or-lt-of-le, le-step, add-mul-div-right, add-mul-mod-self-right, div-eq-of-lt, sub-add-cancel}
 use native.Mathlib.Omega.{arith}
 use native.Mathlib.Numerals.{add-one}
 use lib.Dec.{eqb}
@@ -147,7 +148,8 @@ unfolding ofBits
 ofBits-step f n x b ex eb = ap₂ (λ (y z : ℕ). y * 2 ^ n + z) eb ex ∙ ap (ofBits f) (sym (add-one n))
 
 -- the same with two bits at once, where the bits 2 * k and 2 * k + 1 are both f k
-pub pair-step : (f : ℕ → Bool) (k x b : ℕ) → x ≡ ofBits (λ v. f (v / 2)) (2 * k) → b ≡ one (f k) → 3 * b * 2 ^ (2 * k) + x ≡ ofBits (λ v. f (v / 2)) (2 * (k + 1))
+pub pair-step : (f : ℕ → Bool) (k x b : ℕ) → x ≡ ofBits (λ v. f (v / 2)) (2 * k)
+    → b ≡ one (f k) → 3 * b * 2 ^ (2 * k) + x ≡ ofBits (λ v. f (v / 2)) (2 * (k + 1))
 unfolding ofBits
 pair-step f k x b ex eb =
     let low : 2 * k / 2 ≡ k = omega arith in

@@ -11,7 +11,8 @@ use lib.Bits.{bitAnd, bitOr, bitXor}
 use lib.ListN.{getD, set, length}
 use lib.Seq.{getD-set-same, getD-set-other}
 use Rattle.reader.specs.Limits.{nodeLimit}
-use Rattle.reader.specs.Formula.{Unary, Binary, Formula, constant, name, unary, neg, next, weak, eventually, always, binary, until, release, conj, disj, impl, withUnary, withBinary, operators}
+use Rattle.reader.specs.Formula.{Unary, Binary, neg, next, weak, eventually, always, until, release, conj, disj, impl, withUnary, withBinary}
+use Rattle.reader.specs.Formula.{Formula, constant, name, unary, binary, operators}
 use Rattle.reader.specs.inner.Nodes.{constantCode, unaryCode, binaryCode, wordOf}
 use Rattle.automaton.specs.Limits.{vectorLimit}
 use Rattle.automaton.specs.Bits.{bit, ofBits}
@@ -58,7 +59,8 @@ module _ (nodes : List ℕ) (a : ℕ) (ws : List ℕ) where
       let e : suc i - 1 ≡ i = omega arith in
       ap (λ (j : ℕ). getD ws j 0) e ∙ ev i (le-refl (suc i)) k φ t
 
-  left-word : {i j k : ℕ} {φ : Formula} (K A : ℕ) → K < 256 → suc j < 256 → Evaluated nodes a ws (suc i) → getD nodes (suc i) 0 ≡ wordOf K (suc j) A → j ≤ i → Node nodes j k φ → leftAt (suc i) ≡ setOf (λ v. value φ k a v)
+  left-word : {i j k : ℕ} {φ : Formula} (K A : ℕ) → K < 256 → suc j < 256 → Evaluated nodes a ws (suc i)
+      → getD nodes (suc i) 0 ≡ wordOf K (suc j) A → j ≤ i → Node nodes j k φ → leftAt (suc i) ≡ setOf (λ v. value φ k a v)
   unfolding Evaluated
   left-word {i} {j} {k} {φ} K A hK hL ev e h t =
       let q : leftOf (getD nodes (suc i) 0) - 1 ≡ j = omega (arith, ap leftOf e ∙ left-field K (suc j) A hK hL) in
@@ -69,28 +71,41 @@ module _ (nodes : List ℕ) (a : ℕ) (ws : List ℕ) where
   constant-given i k false e = fields i 0 0 k (omega arith) (omega arith) e (same-false false refl)
   constant-given i k true e = fields i 1 0 k (omega arith) (omega arith) e (same-true true refl)
 
-  unary-given : (i k : ℕ) (u : Unary) (φ : Formula) → getD nodes i 0 ≡ wordOf (unaryCode u) 0 k → rightAt i ≡ setOf (λ v. value φ (withUnary u k) a v) → given i ≡ setOf (λ v. value (unary u φ) k a v)
+  unary-given : (i k : ℕ) (u : Unary) (φ : Formula) → getD nodes i 0 ≡ wordOf (unaryCode u) 0 k
+      → rightAt i ≡ setOf (λ v. value φ (withUnary u k) a v) → given i ≡ setOf (λ v. value (unary u φ) k a v)
   unfolding nodeWord value
   unary-given i k neg φ e R = fields i 3 0 k (omega arith) (omega arith) e (not-set (rightAt i) (λ v. value φ k a v) R)
   unary-given i k next φ e R = fields i 4 0 k (omega arith) (omega arith) e refl
   unary-given i k weak φ e R = fields i 5 0 k (omega arith) (omega arith) e refl
-  unary-given i k eventually φ e R = fields i 6 0 k (omega arith) (omega arith) e (or-sets (rightAt i) (setOf (λ v. bit v k)) (λ v. value φ (suc k) a v) (λ v. bit v k) R refl)
-  unary-given i k always φ e R = fields i 7 0 k (omega arith) (omega arith) e (and-sets (rightAt i) (setOf (λ v. bit v k)) (λ v. value φ (suc k) a v) (λ v. bit v k) R refl)
+  unary-given i k eventually φ e R =
+      fields i 6 0 k (omega arith) (omega arith) e (or-sets (rightAt i) (setOf (λ v. bit v k)) (λ v. value φ (suc k) a v) (λ v. bit v k) R refl)
+  unary-given i k always φ e R =
+      fields i 7 0 k (omega arith) (omega arith) e (and-sets (rightAt i) (setOf (λ v. bit v k)) (λ v. value φ (suc k) a v) (λ v. bit v k) R refl)
 
-  binary-given : (i k j : ℕ) (b : Binary) (φ ψ : Formula) → j < 256 → getD nodes i 0 ≡ wordOf (binaryCode b) j (k + operators φ) → leftAt i ≡ setOf (λ v. value φ k a v) → rightAt i ≡ setOf (λ v. value ψ (withBinary b (k + operators φ)) a v) → given i ≡ setOf (λ v. value (binary b φ ψ) k a v)
+  binary-given : (i k j : ℕ) (b : Binary) (φ ψ : Formula) → j < 256
+      → getD nodes i 0 ≡ wordOf (binaryCode b) j (k + operators φ) → leftAt i ≡ setOf (λ v. value φ k a v)
+      → rightAt i ≡ setOf (λ v. value ψ (withBinary b (k + operators φ)) a v) → given i ≡ setOf (λ v. value (binary b φ ψ) k a v)
   unfolding nodeWord value
   binary-given i k j until φ ψ h e L R =
       let p : ℕ → Bool = λ v. value φ k a v in
       let c : ℕ → Bool = λ v. bit v (k + operators φ) in
-      fields i 8 j (k + operators φ) (omega arith) h e (or-sets (rightAt i) (bitAnd (leftAt i) (setOf c)) (λ v. value ψ (suc (k + operators φ)) a v) (λ v. p v && c v) R (and-sets (leftAt i) (setOf c) p c L refl))
+      fields i 8 j (k + operators φ) (omega arith) h e
+      (or-sets (rightAt i) (bitAnd (leftAt i) (setOf c)) (λ v. value ψ (suc (k + operators φ)) a v)
+      (λ v. p v && c v) R (and-sets (leftAt i) (setOf c) p c L refl))
   binary-given i k j release φ ψ h e L R =
       let p : ℕ → Bool = λ v. value φ k a v in
       let c : ℕ → Bool = λ v. bit v (k + operators φ) in
-      fields i 9 j (k + operators φ) (omega arith) h e (and-sets (rightAt i) (bitOr (leftAt i) (setOf c)) (λ v. value ψ (suc (k + operators φ)) a v) (λ v. p v || c v) R (or-sets (leftAt i) (setOf c) p c L refl))
-  binary-given i k j conj φ ψ h e L R = fields i 10 j (k + operators φ) (omega arith) h e (and-sets (leftAt i) (rightAt i) (λ v. value φ k a v) (λ v. value ψ (k + operators φ) a v) L R)
-  binary-given i k j disj φ ψ h e L R = fields i 11 j (k + operators φ) (omega arith) h e (or-sets (leftAt i) (rightAt i) (λ v. value φ k a v) (λ v. value ψ (k + operators φ) a v) L R)
+      fields i 9 j (k + operators φ) (omega arith) h e
+      (and-sets (rightAt i) (bitOr (leftAt i) (setOf c)) (λ v. value ψ (suc (k + operators φ)) a v)
+      (λ v. p v || c v) R (or-sets (leftAt i) (setOf c) p c L refl))
+  binary-given i k j conj φ ψ h e L R =
+      fields i 10 j (k + operators φ) (omega arith) h e (and-sets (leftAt i) (rightAt i) (λ v. value φ k a v) (λ v. value ψ (k + operators φ) a v) L R)
+  binary-given i k j disj φ ψ h e L R =
+      fields i 11 j (k + operators φ) (omega arith) h e (or-sets (leftAt i) (rightAt i) (λ v. value φ k a v) (λ v. value ψ (k + operators φ) a v) L R)
   binary-given i k j impl φ ψ h e L R =
-      fields i 12 j (k + operators φ) (omega arith) h e (or-sets (bitXor (leftAt i) allValuations) (rightAt i) (λ v. not (value φ k a v)) (λ v. value ψ (k + operators φ) a v) (not-set (leftAt i) (λ v. value φ k a v) L) R)
+      fields i 12 j (k + operators φ) (omega arith) h e
+      (or-sets (bitXor (leftAt i) allValuations) (rightAt i) (λ v. not (value φ k a v))
+      (λ v. value ψ (k + operators φ) a v) (not-set (leftAt i) (λ v. value φ k a v) L) R)
 
   node-given : (i k : ℕ) (φ : Formula) → i < nodeLimit → Evaluated nodes a ws i → Node nodes i k φ → given i ≡ setOf (λ v. value φ k a v)
   unfolding nodeWord value
@@ -98,18 +113,21 @@ module _ (nodes : List ℕ) (a : ℕ) (ws : List ℕ) where
   node-given i k (name n) h ev (at-name e) = fields i 2 0 n (omega arith) (omega arith) e refl
   node-given i k (unary u φ) h ev (at-unary e t) = unary-given i k u φ e (right-word ev t)
   node-given i k (binary b φ ψ) h ev (at-binary {j = j} e n s t) =
-      binary-given i k (suc j) b φ ψ (omega arith) e (left-word (binaryCode b) (k + operators φ) (binary-small b) (omega arith) ev e (omega arith) s) (right-word ev t)
+      binary-given i k (suc j) b φ ψ (omega arith) e
+      (left-word (binaryCode b) (k + operators φ) (binary-small b) (omega arith) ev e (omega arith) s) (right-word ev t)
 
   stored : (i x : ℕ) → i < nodeLimit → length ws ≡ nodeLimit → x ≡ given i → Evaluated nodes a ws i → Evaluated nodes a (set ws i x) (suc i)
   unfolding Evaluated
   stored i x h n e ev j l k φ t =
       ⊎-elim
-      (λ (q : j ≡ i). subst (λ (m : ℕ). Node nodes m k φ → getD (set ws i x) m 0 ≡ setOf (λ v. value φ k a v)) (sym q) (λ u. getD-set-same ws i x 0 (omega arith) ∙ e ∙ node-given i k φ h ev u) t)
+      (λ (q : j ≡ i). subst (λ (m : ℕ). Node nodes m k φ → getD (set ws i x) m 0 ≡ setOf (λ v. value φ k a v))
+      (sym q) (λ u. getD-set-same ws i x 0 (omega arith) ∙ e ∙ node-given i k φ h ev u) t)
       (λ (q : j < i). getD-set-other ws i j x 0 (λ r. let z : ⊥ = omega arith in z) ∙ ev j q k φ t)
       (eq-or-lt-of-le (le-of-suc-le-suc l))
 
   -- the turn of the loop: the word x of node i, made from its operands' words y and z, is stored
-  pub evaluated-more : (i x y z : ℕ) → i < nodeLimit → length ws ≡ nodeLimit → y ≡ leftAt i → z ≡ rightAt i → x ≡ nodeWord (nodeKind (getD nodes i 0)) (argumentOf (getD nodes i 0)) a y z → Evaluated nodes a ws i → Evaluated nodes a (set ws i x) (i + 1)
+  pub evaluated-more : (i x y z : ℕ) → i < nodeLimit → length ws ≡ nodeLimit → y ≡ leftAt i → z ≡ rightAt i
+      → x ≡ nodeWord (nodeKind (getD nodes i 0)) (argumentOf (getD nodes i 0)) a y z → Evaluated nodes a ws i → Evaluated nodes a (set ws i x) (i + 1)
   evaluated-more i x y z h n ey ez e ev = rw add-one (stored i x h n (e ∙ ap₂ (nodeWord (nodeKind (getD nodes i 0)) (argumentOf (getD nodes i 0)) a) ey ez) ev)
 
   -- a bit of an evaluated node's word

@@ -11,7 +11,8 @@ use lib.Dec.{leb}
 use lib.ListN.{getD, set, length}
 use lib.Seq.{getD-set-same, getD-set-other}
 use Rattle.reader.specs.Limits.{nodeLimit}
-use Rattle.reader.specs.Formula.{Unary, Binary, Formula, constant, name, unary, neg, next, weak, eventually, always, binary, until, release, conj, disj, impl, size, withUnary, withBinary, operators}
+use Rattle.reader.specs.Formula.{Unary, Binary, neg, next, weak, eventually, always, until, release, conj, disj, impl, withUnary, withBinary}
+use Rattle.reader.specs.Formula.{Formula, constant, name, unary, binary, size, operators}
 use Rattle.reader.specs.inner.Nodes.{constantCode, nameCode, unaryCode, binaryCode, wordOf}
 use Rattle.automaton.specs.Bits.{one}
 use Rattle.automaton.specs.inner.Representation.{Represents}
@@ -39,7 +40,9 @@ temporal-word K L A w hK hL e = ap temporalKind (ap nodeKind e ∙ kind-field K 
 
 pub coordinate-word : (K L A w : ℕ) → K < 256 → L < 256 → A < placeCount → w ≡ wordOf K L A → coordinateOf w ≡ cond (temporalKind K) A 0
 unfolding coordinateOf
-coordinate-word K L A w hK hL hA e = ap₂ (λ (b : Bool) (n : ℕ). cond b n 0) (temporal-word K L A w hK hL e) (ap (λ (x : ℕ). x % placeCount) (ap argumentOf e ∙ argument-field K L A hK hL) ∙ mod-eq-of-lt hA)
+coordinate-word K L A w hK hL hA e =
+    ap₂ (λ (b : Bool) (n : ℕ). cond b n 0) (temporal-word K L A w hK hL e)
+    (ap (λ (x : ℕ). x % placeCount) (ap argumentOf e ∙ argument-field K L A hK hL) ∙ mod-eq-of-lt hA)
 
 -- ---- what an operator adds to a count
 pub unary-adds : (u : Unary) (n : ℕ) → withUnary u n ≡ one (temporalKind (unaryCode u)) + n
@@ -87,7 +90,8 @@ module _ (nodes : List ℕ) where
   own i k K L o hK hL hk e q p = chosen (temporalKind K) (at o) k (ap at q ∙ coordinate-word K L k _ hK hL hk e) p
 
   -- the coordinates of a formula's operators lie between its first and the last
-  within : (i k o : ℕ) (φ : Formula) → i < nodeLimit → k + operators φ < placeCount → Node nodes i k φ → o ≤ i → i < o + size φ → 0 < at o → (k ≤ at o) × (at o < k + operators φ)
+  within : (i k o : ℕ) (φ : Formula) → i < nodeLimit → k + operators φ < placeCount
+      → Node nodes i k φ → o ≤ i → i < o + size φ → 0 < at o → (k ≤ at o) × (at o < k + operators φ)
   unfolding size operators
   within i k o (constant b) small few (at-constant e) h g p =
       let q : o ≡ i = omega arith in
@@ -117,7 +121,8 @@ module _ (nodes : List ℕ) where
       (eq-or-lt-of-le h)
 
   -- no two operators of a formula have the same coordinate
-  apart : (i k o p : ℕ) (φ : Formula) → i < nodeLimit → k + operators φ < placeCount → Node nodes i k φ → o < p → p ≤ i → i < o + size φ → 0 < at o → at o ≡ at p → ⊥
+  apart : (i k o p : ℕ) (φ : Formula) → i < nodeLimit → k + operators φ < placeCount
+      → Node nodes i k φ → o < p → p ≤ i → i < o + size φ → 0 < at o → at o ≡ at p → ⊥
   unfolding size operators
   apart i k o p (constant b) small few (at-constant e) l h g z same = omega arith
   apart i k o p (name j) small few (at-name e) l h g z same = omega arith
@@ -136,7 +141,8 @@ module _ (nodes : List ℕ) where
       let d = binary-adds b (k + operators φ) in
       let c = binary-adds b (operators ψ) in
       let right : (x : ℕ) → j < x → x ≤ i' → 0 < at x → K ≤ at x = λ x f y r. within i' K x ψ (omega arith) (omega arith) t y (omega arith) r .0 in
-      let left : (x : ℕ) → x ≤ j → suc i' < x + size (binary b φ ψ) → 0 < at x → at x < k + operators φ = λ x f y r. within j k x φ (omega arith) (omega arith) s f (omega arith) r .1 in
+      let left : (x : ℕ) → x ≤ j → suc i' < x + size (binary b φ ψ) → 0 < at x → at x < k + operators φ =
+      λ x f y r. within j k x φ (omega arith) (omega arith) s f (omega arith) r .1 in
       ⊎-elim
       (λ (q : p ≡ suc i').
       let w = own (suc i') (k + operators φ) (binaryCode b) (suc j) p (binary-small b) (omega arith) (omega arith) e q (omega arith) in
@@ -165,7 +171,8 @@ module _ (nodes : List ℕ) where
       let ops = r .few-operators in
       ⊎-elim
       (λ (q : o ≡ getD places (at o) 0). sym q)
-      (λ (q : o < getD places (at o) 0). absurd (apart (m - 1) 1 o (getD places (at o) 0) φ (omega arith) (omega arith) (root-node nodes m φ r) q (omega arith) (omega arith) z (sym (w .2))))
+      (λ (q : o < getD places (at o) 0). absurd
+      (apart (m - 1) 1 o (getD places (at o) 0) φ (omega arith) (omega arith) (root-node nodes m φ r) q (omega arith) (omega arith) z (sym (w .2))))
       (eq-or-lt-of-le (w .0))
 
   -- ---- the number of operators
@@ -174,7 +181,8 @@ module _ (nodes : List ℕ) where
   counted i k n (constant b) e small (at-constant w) =
       let i=n : i ≡ n = omega arith in
       let q : operatorsIn nodes i ≡ operatorsIn nodes n = ap (operatorsIn nodes) i=n in
-      let z : one (isTemporalNode (getD nodes i 0)) ≡ 0 = ap one (temporal-word (constantCode b) 0 k _ (constant-plain b .0) (omega arith) w ∙ constant-plain b .1) in
+      let z : one (isTemporalNode (getD nodes i 0)) ≡ 0 =
+      ap one (temporal-word (constantCode b) 0 k _ (constant-plain b .0) (omega arith) w ∙ constant-plain b .1) in
       omega arith
   counted i k n (name j) e small (at-name w) =
       let i=n : i ≡ n = omega arith in
@@ -182,12 +190,14 @@ module _ (nodes : List ℕ) where
       let z : one (isTemporalNode (getD nodes i 0)) ≡ 0 = ap one (temporal-word nameCode 0 j _ (omega arith) (omega arith) w) in
       omega arith
   counted i k n (unary u φ) e small (at-unary {i = i'} w t) =
-      let z : one (isTemporalNode (getD nodes (suc i') 0)) ≡ one (temporalKind (unaryCode u)) = ap one (temporal-word (unaryCode u) 0 k _ (unary-small u) (omega arith) w) in
+      let z : one (isTemporalNode (getD nodes (suc i') 0)) ≡ one (temporalKind (unaryCode u)) =
+      ap one (temporal-word (unaryCode u) 0 k _ (unary-small u) (omega arith) w) in
       let x = counted i' (withUnary u k) n φ (omega arith) (omega arith) t in
       let y = unary-adds u (operators φ) in
       omega arith
   counted i k n (binary b φ ψ) e small (at-binary {i = i'} {j = j} w l s t) =
-      let z : one (isTemporalNode (getD nodes (suc i') 0)) ≡ one (temporalKind (binaryCode b)) = ap one (temporal-word (binaryCode b) (suc j) (k + operators φ) _ (binary-small b) (omega arith) w) in
+      let z : one (isTemporalNode (getD nodes (suc i') 0)) ≡ one (temporalKind (binaryCode b)) =
+      ap one (temporal-word (binaryCode b) (suc j) (k + operators φ) _ (binary-small b) (omega arith) w) in
       let x = counted j k n φ (omega arith) (omega arith) s in
       let x' = counted i' (withBinary b (k + operators φ)) (suc j) ψ (omega arith) (omega arith) t in
       let y = binary-adds b (operators ψ) in

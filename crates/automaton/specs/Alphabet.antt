@@ -12,19 +12,19 @@ unfoldable pub use Rattle.machine.specs.Letters.{Letters}
 use Rattle.automaton.specs.Limits.{nameLimit}
 
 -- refusal 1: more inputs or outputs than the limit
-abbrev pub badAlphabet : ℕ → ℕ → Bool
+abbrev pub badAlphabet : (i o : ℕ) → Bool
 badAlphabet i o = ltb nameLimit i || ltb nameLimit o
 
 -- the number L of letters
-abbrev pub letterCount : ℕ → ℕ → ℕ
+abbrev pub letterCount : (i o : ℕ) → ℕ
 letterCount i o = 2 ^ (i + o)
 
 -- the letter of input x and output y, where there are `inputs` input numbers
-abbrev pub letterOf : ℕ → ℕ → ℕ → ℕ
+abbrev pub letterOf : (inputs x y : ℕ) → ℕ
 letterOf inputs x y = x + inputs * y
 
 -- the index of the first number of a list that is `bound` or more, or the list's length
-unfoldable pub firstOver : ℕ → List ℕ → ℕ
+unfoldable pub firstOver : (bound : ℕ) (w : List ℕ) → ℕ
 firstOver bound [] = 0
 firstOver bound (a ∷ w) = cond (leb bound a) 0 (suc (firstOver bound w))
 

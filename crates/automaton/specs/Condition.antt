@@ -22,16 +22,16 @@ use Rattle.automaton.specs.Trace.{Satisfies}
 use Rattle.automaton.specs.Valuation.{value}
 
 -- the mask of a condition: bit x says whether input number x has it
-unfoldable pub maskOf : Formula → ℕ → ℕ
+unfoldable pub maskOf : (κ : Formula) (i : ℕ) → ℕ
 unfolding value ofBits
 maskOf κ i = ofBits (λ x. value κ 1 x 0) (2 ^ i)
 
 -- a mask judges each input number as the condition does on that input alone
-abbrev pub Judges : Formula → ℕ → ℕ → Type 0
+abbrev pub Judges : (κ : Formula) (i mask : ℕ) → Type 0
 Judges κ i mask = (x : ℕ) → x < 2 ^ i → (bit mask x ≡ true) ↔ Satisfies κ (x ∷ [])
 
 -- the refusal that comes first, for a text with the reading ρ
-unfoldable pub conditionRefusal : ℕ → List ℕ → Reading → Refusal
+unfoldable pub conditionRefusal : (i : ℕ) (text : List ℕ) (ρ : Reading) → Refusal
 conditionRefusal i text ρ = cond (badAlphabet i 0) Alphabet (cond (tooLong text) TextLength (afterCondition ρ Nothing))
 
 -- the specification's number and place of every answer: none where the call is served

@@ -20,7 +20,7 @@ use Rattle.automaton.specs.Alphabet.{badAlphabet, letterCount, firstOver
 use Rattle.automaton.specs.Trace.{Satisfies}
 
 -- the refusal that comes first, for a text with the reading ρ
-unfoldable pub trialRefusal : ℕ → ℕ → List ℕ → List ℕ → Reading → Refusal
+unfoldable pub trialRefusal : (i o : ℕ) (text letters : List ℕ) (ρ : Reading) → Refusal
 unfolding firstOver
 trialRefusal i o text letters ρ =
     cond (badAlphabet i o) Alphabet

@@ -22,6 +22,9 @@ pub const PLACE_COUNT: usize = 8;
 // Valuations at most.
 pub const VECTOR_LIMIT: usize = 1 << COORDINATE_LIMIT;
 
+// What an entry of the table, which is a valuation, is below.
+pub const ENTRY_LIMIT: u8 = VECTOR_LIMIT as u8;
+
 // Pairs of valuations that differ in coordinate 0 only, at most.
 pub const PAIR_LIMIT: usize = VECTOR_LIMIT / 2;
 

@@ -47,8 +47,10 @@ fn fill_rows(
     letters: usize,
     table: &mut [u8],
 )
-    requires { ⌜ (count ≤ nodeLimit) × (width ≤ coordinateLimit) × (entries ≤ pairLimit) × (letters ≤ letterLimit) × (letters * pairLimit ≤ length (now table)) × Located (now nodes) count (now places) ⌝ }
-    ensures { λ r. ⌜ ((φ : Formula) → Represents (now (nodes .entry)) count φ → width ≡ suc (operators φ) → entries ≡ 2 ^ operators φ → Tabulates φ letters (now (table .exit))) ⌝ }
+    requires { ⌜ (count ≤ nodeLimit) × (width ≤ coordinateLimit) × (entries ≤ pairLimit)
+        × (letters ≤ letterLimit) × (letters * pairLimit ≤ length (now table)) × Located (now nodes) count (now places) ⌝ }
+    ensures { λ r. ⌜ ((φ : Formula) → Represents (now (nodes .entry)) count φ → width ≡ suc (operators φ) → entries ≡ 2 ^ operators φ
+        → Tabulates φ letters (now (table .exit))) ⌝ }
 {
     let mut a: usize = 0;
     while a < letters {

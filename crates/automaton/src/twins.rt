@@ -6,13 +6,10 @@ ghost use lib.ListN.{length};
 ghost use Rattle.automaton.specs.Limits.{letterLimit, pairLimit};
 ghost use Rattle.automaton.specs.inner.Representation.{SameRow, slotCount, Twins};
 use crate::bytes::wide;
+use crate::limits::ENTRY_LIMIT;
 use crate::limits::LETTER_LIMIT;
 use crate::limits::PAIR_LIMIT;
 use crate::limits::TABLE_SIZE;
-use crate::limits::VECTOR_LIMIT;
-
-// The number of valuations, as a byte.
-const VECTORS: u8 = VECTOR_LIMIT as u8;
 
 // The number of slots.
 const SLOTS: usize = 1021;
@@ -46,7 +43,7 @@ fn slot_of(table: &[u8; TABLE_SIZE], entries: usize, letter: usize) -> usize
     let mut key: usize = 0;
     let mut k: usize = 0;
     while k < entries {
-        let entry = table[row + k] % VECTORS;
+        let entry = table[row + k] % ENTRY_LIMIT;
         key = (key % KEYS) * 127 + entry as usize;
         k += 1;
     }

@@ -38,17 +38,18 @@ unfolding isTemporalNode
 coordinateOf w = cond (isTemporalNode w) (argumentOf w % placeCount) 0
 
 -- places[j] is the last node below m that has the coordinate j, if one has
-unfoldable pub Located : List ℕ → ℕ → List ℕ → Type 0
+unfoldable pub Located : (nodes : List ℕ) (m : ℕ) (places : List ℕ) → Type 0
 unfolding coordinateOf
 Located nodes m places =
-    (j o : ℕ) → o < m → coordinateOf (getD nodes o 0) ≡ j → (o ≤ getD places j 0) × (getD places j 0 < m) × (coordinateOf (getD nodes (getD places j 0) 0) ≡ j)
+    (j o : ℕ) → o < m → coordinateOf (getD nodes o 0) ≡ j →
+    (o ≤ getD places j 0) × (getD places j 0 < m) × (coordinateOf (getD nodes (getD places j 0) 0) ≡ j)
 
 -- the node whose value is an operator's coordinate: of X and N the operand
-unfoldable pub ownerOf : ℕ → ℕ → ℕ
+unfoldable pub ownerOf : (kind o : ℕ) → ℕ
 ownerOf kind o = cond (eqb kind (unaryCode next) || eqb kind (unaryCode weak)) (o - 1) o
 
 -- the node whose value is coordinate j: of coordinate 0 the root
-unfoldable pub owner : List ℕ → List ℕ → ℕ → ℕ → ℕ
+unfoldable pub owner : (nodes places : List ℕ) (m j : ℕ) → ℕ
 unfolding ownerOf
 owner nodes places m zero = m - 1
 owner nodes places m (suc j) = ownerOf (nodeKind (getD nodes (getD places (suc j) 0) 0)) (getD places (suc j) 0)
@@ -58,12 +59,12 @@ unfoldable pub endOf : ℕ → Bool
 endOf kind = eqb kind (unaryCode weak) || (eqb kind (unaryCode always) || eqb kind (binaryCode release))
 
 -- coordinate j's bit of the end valuation
-unfoldable pub endBit : List ℕ → List ℕ → ℕ → Bool
+unfoldable pub endBit : (nodes places : List ℕ) (j : ℕ) → Bool
 unfolding endOf
 endBit nodes places zero = false
 endBit nodes places (suc j) = endOf (nodeKind (getD nodes (getD places (suc j) 0) 0))
 
 -- the words of the coordinates make from each of the valuations the one that letter a makes from it: its coordinate j is bit v of word j
-unfoldable pub Makes : Formula → ℕ → List ℕ → Type 0
+unfoldable pub Makes : (φ : Formula) (a : ℕ) (words : List ℕ) → Type 0
 unfolding ofBits bit present
 Makes φ a words = (v : ℕ) → v < vectorLimit → ofBits (λ j. bit (getD words j 0) v) (suc (operators φ)) ≡ present φ a v

@@ -19,7 +19,7 @@ abbrev pub allValuations : ℕ
 allValuations = 0xFFFF_FFFF_FFFF_FFFF
 
 -- a node's value for each of the valuations, from those of its operands
-unfoldable pub nodeWord : ℕ → ℕ → ℕ → ℕ → ℕ → ℕ
+unfoldable pub nodeWord : (kind argument a left right : ℕ) → ℕ
 unfolding ofBits bit
 nodeWord kind argument a left right =
     cond (eqb kind (constantCode false)) 0
@@ -37,6 +37,7 @@ nodeWord kind argument a left right =
     (bitOr (bitXor left allValuations) right))))))))))))
 
 -- for each node below m that stands for a formula, the words hold the formula's value for each of the valuations
-unfoldable pub Evaluated : List ℕ → ℕ → List ℕ → ℕ → Type 0
+unfoldable pub Evaluated : (nodes : List ℕ) (a : ℕ) (words : List ℕ) (m : ℕ) → Type 0
 unfolding ofBits value
-Evaluated nodes a words m = (i : ℕ) → i < m → (k : ℕ) (φ : Formula) → Node nodes i k φ → getD words i 0 ≡ ofBits (λ v. value φ k a v) vectorLimit
+Evaluated nodes a words m =
+    (i : ℕ) → i < m → (k : ℕ) (φ : Formula) → Node nodes i k φ → getD words i 0 ≡ ofBits (λ v. value φ k a v) vectorLimit

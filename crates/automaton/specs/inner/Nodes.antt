@@ -23,5 +23,7 @@ argumentOf w = w / 65536
 pub data Node (nodes : List ℕ) : ℕ → ℕ → Formula → Type 0 where
   at-constant : {i k : ℕ} {b : Bool} → getD nodes i 0 ≡ wordOf (constantCode b) 0 k → Node nodes i k (constant b)
   at-name : {i k j : ℕ} → getD nodes i 0 ≡ wordOf nameCode 0 j → Node nodes i k (name j)
-  at-unary : {i k : ℕ} {u : Unary} {φ : Formula} → getD nodes (suc i) 0 ≡ wordOf (unaryCode u) 0 k → Node nodes i (withUnary u k) φ → Node nodes (suc i) k (unary u φ)
-  at-binary : {i j k : ℕ} {b : Binary} {φ ψ : Formula} → getD nodes (suc i) 0 ≡ wordOf (binaryCode b) (suc j) (k + operators φ) → i ≡ j + size ψ → Node nodes j k φ → Node nodes i (withBinary b (k + operators φ)) ψ → Node nodes (suc i) k (binary b φ ψ)
+  at-unary : {i k : ℕ} {u : Unary} {φ : Formula} → getD nodes (suc i) 0 ≡ wordOf (unaryCode u) 0 k
+      → Node nodes i (withUnary u k) φ → Node nodes (suc i) k (unary u φ)
+  at-binary : {i j k : ℕ} {b : Binary} {φ ψ : Formula} → getD nodes (suc i) 0 ≡ wordOf (binaryCode b) (suc j) (k + operators φ) → i ≡ j + size ψ
+      → Node nodes j k φ → Node nodes i (withBinary b (k + operators φ)) ψ → Node nodes (suc i) k (binary b φ ψ)

@@ -66,7 +66,8 @@ too-long-requires c κs = search needs
 returns-2 : tie.Need-returns-2
 returns-2 c =
     let z = c .before .before .before .before .before .args in
-    by-length (z .i) (now (z .text)) (sym (c .before .before .before .bad-alphabet .ensures) ∙ c .before .before .if1 .left) (sym (c .before .too-long .ensures) ∙ c .if2 .taken)
+    by-length (z .i) (now (z .text)) (sym (c .before .before .before .bad-alphabet .ensures) ∙ c .before .before .if1 .left)
+    (sym (c .before .too-long .ensures) ∙ c .if2 .taken)
 
 cast-read : tie.Need-cast-read
 cast-read c = let z = c .before .before .before .before .before .args in omega (arith, inputs-fit (z .i) 0 (fits c))
@@ -85,7 +86,8 @@ returns-3 c =
     let e = c .before .before .before .before in
     let z = e .before .before .before .before .before .args in
     let r = c .before .before .read in
-    by-reading (z .i) (now (z .text)) (fits e) (short e) (r .result) (r .ensures .0) (not-good (r .result) (c .before .match .keys2)) (c .text-refusal .result) (c .text-refusal .ensures)
+    by-reading (z .i) (now (z .text)) (fits e) (short e) (r .result) (r .ensures .0)
+    (not-good (r .result) (c .before .match .keys2)) (c .text-refusal .result) (c .text-refusal .ensures)
 
 power-requires : tie.Need-power-requires
 power-requires c κs = search needs

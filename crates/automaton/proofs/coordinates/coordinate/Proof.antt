@@ -27,7 +27,8 @@ array-read-result c = search needs
 
 returns : tie.Need-returns
 unfolding table right bit ofBits
-returns c = eqb→eq (getD table (c .before .args .j) 0) (ofBits (λ v. bit v (c .before .args .j)) vectorLimit) (at right table tt (c .before .args .j) (c .if1 .taken))
+returns c = eqb→eq (getD table (c .before .args .j) 0) (ofBits (λ v. bit v (c .before .args .j)) vectorLimit)
+    (at right table tt (c .before .args .j) (c .if1 .taken))
 
 returns-2 : tie.Need-returns-2
 returns-2 c = sym (no-coordinate (c .before .args .j) (c .if1 .left))

@@ -1,4 +1,5 @@
--- `automaton::mask::condition_mask` meets its contract. The invariant: the bits below x are set, and are the condition's where the nodes are a condition's. The measure is what is left of the inputs. Assumes nothing.
+-- `automaton::mask::condition_mask` meets its contract. The invariant: the bits below x are set, and are the condition's where the nodes are a
+-- condition's. The measure is what is left of the inputs. Assumes nothing.
 use native.Mathlib.Omega.{arith}
 use mathlib.Core.Path.{_≡_, refl, ap, _∙_}
 use Prim.Native.Nat.{_-_, _^_, _≤_, _<_}

@@ -1,4 +1,5 @@
--- `automaton::operators::operator_count` meets its contract. The invariant: the operators among the nodes below i are counted. The measure is what is left of the nodes. Assumes nothing.
+-- `automaton::operators::operator_count` meets its contract. The invariant: the operators among the nodes below i are counted. The measure is what
+-- is left of the nodes. Assumes nothing.
 use native.Mathlib.Omega.{arith}
 use native.Mathlib.Numerals.{add-one}
 use mathlib.Core.Path.{_≡_, refl, ap, _∙_}

@@ -1,4 +1,5 @@
--- `automaton::valuation::coordinate_words` meets its contract. The invariant: the coordinates below j have their words. The measure is what is left of the six. Assumes nothing.
+-- `automaton::valuation::coordinate_words` meets its contract. The invariant: the coordinates below j have their words. The measure is what is left
+-- of the coordinates. Assumes nothing.
 use native.Mathlib.Omega.{arith}
 use mathlib.Core.Path.{_≡_, refl, ap, _∙_}
 use Prim.Native.Nat.{ℕ, _-_, _≤_, _<_}
@@ -12,7 +13,8 @@ use Rattle.automaton.proofs.valuation.coordinate_words.Statement.{state
 use Rattle.automaton.proofs.valuation.coordinate_words.Tie as tie
 
 abbrev Inv-loop : tie.InvT-loop
-Inv-loop nodes places count words r₀ j₀ r j = (j ≤ coordinateLimit) × (length r ≡ coordinateLimit) × ((k : ℕ) → k < j → getD r k 0 ≡ getD words (owner nodes places count k) 0)
+Inv-loop nodes places count words r₀ j₀ r j =
+    (j ≤ coordinateLimit) × (length r ≡ coordinateLimit) × ((k : ℕ) → k < j → getD r k 0 ≡ getD words (owner nodes places count k) 0)
 
 abbrev μ-loop : tie.MeasureT-loop
 μ-loop nodes places count words r₀ j₀ r j = coordinateLimit - j

@@ -68,7 +68,8 @@ fn clear(buffer: &mut [u8], n: usize)
 // Sets the flag of each of the first n states to whether it holds the end valuation.
 fn mark_states(list: &[u64], n: usize, end: u64, accepting: &mut [u8])
     requires { ⌜ (n ≤ length (now list)) × (n ≤ length (now accepting)) × (end < 64) ⌝ }
-    ensures { λ r. ⌜ ((s : ℕ) → s < n → getD (now (accepting .exit)) s 0 ≡ one (bit (getD (now (list .entry)) s 0) end)) × ((s : ℕ) → n ≤ s → getD (now (accepting .exit)) s 0 ≡ getD (now (accepting .entry)) s 0) ⌝ }
+    ensures { λ r. ⌜ ((s : ℕ) → s < n → getD (now (accepting .exit)) s 0 ≡ one (bit (getD (now (list .entry)) s 0) end))
+        × ((s : ℕ) → n ≤ s → getD (now (accepting .exit)) s 0 ≡ getD (now (accepting .entry)) s 0) ⌝ }
 {
     let mut s: usize = 0;
     while s < n {

@@ -91,9 +91,13 @@ fn explore_state(
     transitions: &mut [u8],
     list: &mut [u64],
 ) -> usize
-    requires { ⌜ (vectors ≤ 64) × (letters ≤ 256) × Twins letters (vectors / 2) (now table) (now twins) × (s < count) × (count ≤ stateLimit) × (stateLimit * letters ≤ length (now transitions)) × (stateLimit ≤ length (now list)) ⌝ }
-    ensures explored { λ r. ⌜ ((φ : Formula) → Tabulates φ letters (now (table .entry)) → vectors ≡ 2 ^ suc (operators φ) → Progress φ letters count (s * letters) (now (list .entry)) (now (transitions .entry)) → StateExplored φ letters s r (now (list .exit)) (now (transitions .exit))) ⌝ }
-    ensures kept { λ r. ⌜ (count ≤ r) × (r ≤ suc stateLimit) × ((u : ℕ) → s * letters + letters ≤ u → getD (now (transitions .exit)) u 0 ≡ getD (now (transitions .entry)) u 0) ⌝ }
+    requires { ⌜ (vectors ≤ 64) × (letters ≤ 256) × Twins letters (vectors / 2) (now table) (now twins)
+        × (s < count) × (count ≤ stateLimit) × (stateLimit * letters ≤ length (now transitions)) × (stateLimit ≤ length (now list)) ⌝ }
+    ensures explored { λ r. ⌜ ((φ : Formula) → Tabulates φ letters (now (table .entry)) → vectors ≡ 2 ^ suc (operators φ)
+        → Progress φ letters count (s * letters) (now (list .entry)) (now (transitions .entry))
+        → StateExplored φ letters s r (now (list .exit)) (now (transitions .exit))) ⌝ }
+    ensures kept { λ r. ⌜ (count ≤ r) × (r ≤ suc stateLimit)
+        × ((u : ℕ) → s * letters + letters ≤ u → getD (now (transitions .exit)) u 0 ≡ getD (now (transitions .entry)) u 0) ⌝ }
 {
     let row = s * letters;
     let mut n = count;
@@ -131,9 +135,13 @@ fn explore(
     transitions: &mut [u8],
     list: &mut [u64],
 ) -> usize
-    requires { ⌜ (vectors ≤ 64) × (0 < letters) × (letters ≤ 256) × Twins letters (vectors / 2) (now table) (now twins) × (stateLimit * letters ≤ length (now transitions)) × (stateLimit ≤ length (now list)) ⌝ }
-    ensures explored { λ r. ⌜ ((φ : Formula) → Tabulates φ letters (now (table .entry)) → vectors ≡ 2 ^ suc (operators φ) → first ≡ start φ → Explored φ letters r (now (list .exit)) (now (transitions .exit))) ⌝ }
-    ensures kept { λ r. ⌜ (r ≤ suc stateLimit) × ((u : ℕ) → stateLimit * letters ≤ u → getD (now (transitions .exit)) u 0 ≡ getD (now (transitions .entry)) u 0) × (r ≤ stateLimit → (u : ℕ) → r * letters ≤ u → getD (now (transitions .exit)) u 0 ≡ getD (now (transitions .entry)) u 0) ⌝ }
+    requires { ⌜ (vectors ≤ 64) × (0 < letters) × (letters ≤ 256) × Twins letters (vectors / 2) (now table) (now twins)
+        × (stateLimit * letters ≤ length (now transitions)) × (stateLimit ≤ length (now list)) ⌝ }
+    ensures explored { λ r. ⌜ ((φ : Formula) → Tabulates φ letters (now (table .entry)) → vectors ≡ 2 ^ suc (operators φ) → first ≡ start φ
+        → Explored φ letters r (now (list .exit)) (now (transitions .exit))) ⌝ }
+    ensures kept { λ r. ⌜ (r ≤ suc stateLimit)
+        × ((u : ℕ) → stateLimit * letters ≤ u → getD (now (transitions .exit)) u 0 ≡ getD (now (transitions .entry)) u 0)
+        × (r ≤ stateLimit → (u : ℕ) → r * letters ≤ u → getD (now (transitions .exit)) u 0 ≡ getD (now (transitions .entry)) u 0) ⌝ }
 {
     list[0] = first;
     let mut n: usize = 1;
@@ -159,8 +167,10 @@ pub(crate) fn build(
     transitions: &mut [u8],
     accepting: &mut [u8],
 ) -> usize
-    requires { ⌜ (1 ≤ width) × (width ≤ 6) × (end < 64) × (0 < letters) × (letters ≤ 256) × (stateLimit * letters ≤ length (now transitions)) × (stateLimit ≤ length (now accepting)) ⌝ }
-    ensures built { λ r. ⌜ ((φ : Formula) → Tabulates φ letters (now (table .entry)) → width ≡ suc (operators φ) → end ≡ endVector φ → BuiltAutomaton φ letters r (now (transitions .entry)) (now (accepting .entry)) (now (transitions .exit)) (now (accepting .exit))) ⌝ }
+    requires { ⌜ (1 ≤ width) × (width ≤ 6) × (end < 64) × (0 < letters) × (letters ≤ 256)
+        × (stateLimit * letters ≤ length (now transitions)) × (stateLimit ≤ length (now accepting)) ⌝ }
+    ensures built { λ r. ⌜ ((φ : Formula) → Tabulates φ letters (now (table .entry)) → width ≡ suc (operators φ) → end ≡ endVector φ
+        → BuiltAutomaton φ letters r (now (transitions .entry)) (now (accepting .entry)) (now (transitions .exit)) (now (accepting .exit))) ⌝ }
     ensures bounded { λ r. ⌜ r ≤ suc stateLimit ⌝ }
 {
     let vectors = 1u64 << width;

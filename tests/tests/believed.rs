@@ -1,4 +1,4 @@
-//! README: the definitions that a reader has to believe stand in crates/*/specs, and those that only the private
+//! The definitions that a reader has to believe stand in crates/*/specs, and those that only the private
 //! functions and the proofs use in specs/inner. No believed file uses an inner one, and every file is in the list
 //! of its folder.
 
@@ -56,11 +56,11 @@ fn every_file_is_in_its_list() {
 
 #[test]
 fn a_use_of_an_inner_file_is_seen() {
-    let own = "-- a head\nuse Rattle.game.specs.inner.Rank.{judged}\n";
-    let other = "use Rattle.game.specs.inner.Rank as rank\n";
-    let inline = "f = Rattle.game.specs.inner.Rank.judged\n";
+    let own = "-- a head\nuse Rattle.plays.specs.inner.Rank.{judged}\n";
+    let other = "use Rattle.plays.specs.inner.Rank as rank\n";
+    let inline = "f = Rattle.plays.specs.inner.Rank.judged\n";
     for source in [own, other, inline] {
         assert_eq!(inner_uses(source).len(), 1, "{source}");
     }
-    assert!(inner_uses("-- see specs.inner.Rank\nuse Rattle.game.specs.Arena.{Arena}\n").is_empty());
+    assert!(inner_uses("-- see specs.inner.Rank\nuse Rattle.plays.specs.Arena.{Arena}\n").is_empty());
 }

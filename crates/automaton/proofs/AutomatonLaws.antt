@@ -1,66 +1,26 @@
--- Demand 2 for the buffers (specs/Automaton.antt): filled by the exploration and marked, they hold the automaton of the formula, and a walk
--- in them accepts as the formula says. Assumes nothing.
-use Prim.Native.Nat.{ℕ, suc, _+_, _*_, _%_, _^_, _≤_, _<_, zero-le, min}
-use mathlib.Core.Path.{_≡_, refl, sym, ap, ap₂, _∙_}
-use mathlib.Core.List.{List, [], _∷_}
-use mathlib.Core.Logic.{_↔_}
+-- What `build` leaves in the buffers (specs/inner/Exploration.antt): explored and marked, they hold the automaton of the formula, cleared behind it;
+-- or they are cleared where it has too many states. Assumes nothing.
+use Prim.Native.Nat.{ℕ, suc, _*_, _%_, _^_, _≤_, _<_, zero-le, min}
+use mathlib.Core.Path.{_≡_, refl, ap, ap₂, _∙_}
+use mathlib.Core.List.{List}
 use native.Mathlib.Nat.{mul-le-mul-right}
 use native.Mathlib.Omega.{arith}
-use lib.Arith.{digits-lt, digits-div, digits-mod}
 use lib.ListN.{getD, length}
-use lib.Seq.{getD-take}
+use Rattle.machine.specs.Discovery as machine
+use Rattle.machine.proofs.Reachable.{too-many}
+use Rattle.machine.proofs.AutomatonLaws.{moved-at, automaton-holds}
 use Rattle.reader.specs.Formula.{Formula, operators}
 use Rattle.automaton.specs.Limits.{stateLimit}
-use Rattle.automaton.specs.Alphabet.{Letters}
 use Rattle.automaton.specs.Bits.{bit, one, ofBits}
 use Rattle.automaton.specs.Trace.{Satisfies}
 use Rattle.automaton.specs.Valuation.{vectors, endVector}
-use Rattle.automaton.specs.State.{start, after, accepts}
-use Rattle.automaton.specs.inner.Fold.{run}
-use Rattle.automaton.specs.Discovery.{position, states, stateCount, target}
-use Rattle.automaton.specs.Automaton.{walk, Automaton, Cleared}
-use Rattle.automaton.specs.inner.Exploration.{Filled, Explored, BuiltAutomaton}
+use Rattle.automaton.specs.State.{start, accepts, machineOf}
+use Rattle.automaton.specs.Discovery.{states, stateCount}
+use Rattle.automaton.specs.Automaton.{Automaton}
+use Rattle.automaton.specs.Buffer.{Cleared}
+use Rattle.automaton.specs.inner.Exploration.{Explored, BuiltAutomaton}
 use Rattle.automaton.proofs.BitLaws.{one-shifted}
-use Rattle.automaton.proofs.StepLaws.{by-one}
-use Rattle.automaton.proofs.Meaning.{run-accepts}
-use Rattle.automaton.proofs.PositionLaws.{getD-position}
-use Rattle.automaton.proofs.Reachable.{first-state, some-states, stays-in, numbered, too-many}
-
--- a transition by its state and letter
-pub moved-at : (φ : Formula) (L n : ℕ) (transitions : List ℕ) → 0 < L → n ≤ stateLimit → n ≡ length (states φ L) → Filled φ L (states φ L) transitions (n * L) → (s a : ℕ) → s < n → a < L
-    → (getD transitions (s * L + a) 0 < n) × (getD (states φ L) (getD transitions (s * L + a) 0) 0 ≡ after φ (getD (states φ L) s 0) a)
-unfolding Filled target
-moved-at φ L n transitions pos few count filled s a hs ha =
-    let ws = states φ L in
-    let x = after φ (getD ws s 0) a in
-    let l : position x ws < length ws = stays-in φ L pos (omega arith) s a (omega arith) ha in
-    let m : getD transitions (s * L + a) 0 ≡ position x ws = filled (s * L + a) (digits-lt hs ha) ∙ ap₂ (λ (i j : ℕ). position (after φ (getD ws i 0) j) ws) (digits-div s ha) (digits-mod s ha) in
-    (omega arith, ap (λ (k : ℕ). getD ws k 0) m ∙ getD-position ws x l)
-
-module _ (φ : Formula) (L n : ℕ) (transitions accepting : List ℕ) (pos : 0 < L) (count : n ≡ length (states φ L))
-    (moved : (s a : ℕ) → s < n → a < L → (getD transitions (s * L + a) 0 < n) × (getD (states φ L) (getD transitions (s * L + a) 0) 0 ≡ after φ (getD (states φ L) s 0) a))
-    (marked : (s : ℕ) → s < n → getD accepting s 0 ≡ one (accepts φ (getD (states φ L) s 0))) where
-  -- the walk follows the states
-  walk-runs : (w : List ℕ) (s y : ℕ) → Letters L w → s < n → getD (states φ L) s 0 ≡ y → (walk transitions L s w < n) × (getD (states φ L) (walk transitions L s w) 0 ≡ run φ y w)
-  unfolding walk run Letters
-  walk-runs [] s y h l e = (l, e)
-  walk-runs (a ∷ w) s y h l e =
-      let m = moved s a l (h .0) in
-      walk-runs w (getD transitions (s * L + a) 0) (after φ y a) (h .1) (m .0) (m .1 ∙ ap (λ (i : ℕ). after φ i a) e)
-
-  -- demand 2's claim, for the automaton as the buffers hold it
-  walk-accepts : (a : ℕ) (w : List ℕ) → Letters L (a ∷ w) → (getD accepting (walk transitions L 0 (a ∷ w)) 0 ≡ 1) ↔ Satisfies φ (a ∷ w)
-  walk-accepts a w h =
-      let f = walk-runs (a ∷ w) 0 (start φ) h (omega (arith, some-states φ L)) (first-state φ L) in
-      let e : getD accepting (walk transitions L 0 (a ∷ w)) 0 ≡ one (accepts φ (run φ (start φ) (a ∷ w))) = marked (walk transitions L 0 (a ∷ w)) (f .0) ∙ ap (λ (y : ℕ). one (accepts φ y)) (f .1) in
-      let g = by-one (accepts φ (run φ (start φ) (a ∷ w))) (run-accepts φ a w) in
-      (λ q. g .0 (sym e ∙ q), λ x. e ∙ g .1 x)
-
-  pub automaton-holds : n ≤ stateLimit → Automaton φ L n transitions accepting
-  unfolding stateCount
-  automaton-holds few = record { count = count; numbering = numbered φ L pos (omega arith); moved = moved; marked = marked; meaning = walk-accepts }
-
--- ---- what `build` leaves
+use Rattle.automaton.proofs.Meaning.{formula-recognizes}
 
 -- the bytes from `used` on are as they were
 abbrev pub Kept : ℕ → List ℕ → List ℕ → Type 0
@@ -75,18 +35,19 @@ pub built-within : (φ : Formula) (L r end : ℕ) (transitions t₁ t₂ accepti
     → Cleared 0 (stateLimit * L) transitions t₁ → Kept (r * L) t₁ t₂ → length t₂ ≡ length t₁
     → Cleared 0 stateLimit accepting a₁ → ((s : ℕ) → s < r → getD a₂ s 0 ≡ one (bit (getD list s 0) end)) × Kept r a₁ a₂ → length a₂ ≡ length a₁
     → BuiltAutomaton φ L r transitions accepting t₂ a₂
-unfolding accepts stateCount
+unfolding accepts machine.stateCount
 built-within φ L r end transitions t₁ t₂ accepting a₁ a₂ list pos few ex e ct kt lt ca marks la =
     let n : r ≡ min (suc stateLimit) (length (states φ L)) = ex .number in
     let count : r ≡ length (states φ L) = omega arith in
-    let word-at : (s : ℕ) → s < r → getD list s 0 ≡ getD (states φ L) s 0 = λ s l. sym (getD-take r list s 0 l) ∙ ap (λ (ws : List ℕ). getD ws s 0) (ex .words few) in
+    let flags : (s : ℕ) → s < r → getD a₂ s 0 ≡ one (accepts φ (machine.stateAt (machineOf φ) (states φ L) s)) =
+    λ s l. marks .0 s l ∙ ap₂ (λ (i j : ℕ). one (bit i j)) (ex .members few s l) e in
     record {
       within = λ q.
           record {
             count = count;
             automaton =
-                automaton-holds φ L r t₂ a₂ pos count (moved-at φ L r t₂ pos few count (ex .filled few))
-                (λ s l. marks .0 s l ∙ ap₂ (λ (i j : ℕ). one (bit i j)) (word-at s l) e) few;
+                automaton-holds (machineOf φ) L stateLimit r pos count t₂ a₂ (moved-at (machineOf φ) L stateLimit r pos count t₂ few (ex .filled few)) flags
+                (Satisfies φ) (formula-recognizes φ L) few;
             transitions-rest = cleared-written (r * L) (stateLimit * L) transitions t₁ t₂ (mul-le-mul-right L few) ct kt lt;
             accepting-rest = cleared-written r stateLimit accepting a₁ a₂ few ca (marks .1) la;
           };
@@ -104,7 +65,7 @@ built-beyond φ L r transitions t₁ t₂ t₃ accepting list pos many ex c₁ k
       beyond = λ q.
           record {
             count = more;
-            many = too-many φ L pos more;
+            many = too-many (machineOf φ) L stateLimit pos more;
             cleared = record { size = c₃ .size ∙ e ∙ c₁ .size; rest = c₃ .rest; beyond = λ k a. c₃ .beyond k a ∙ kept k a ∙ c₁ .beyond k a };
             untouched = refl;
           };

@@ -6,9 +6,6 @@ pub mod ValuationLaws
 pub mod Meaning
 pub mod PairLaws
 pub mod SuccessorLaws
-pub mod PositionLaws
-pub mod DiscoveryLaws
-pub mod Reachable
 pub mod ExplorationLaws
 pub mod TwinLaws
 pub mod AutomatonLaws

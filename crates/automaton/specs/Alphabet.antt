@@ -1,12 +1,14 @@
 -- Letters (specification, "Letters"): i inputs and o outputs make 2^i input numbers, 2^o output numbers and L = 2^(i+o) letters. And what is
 -- refused of them: too many inputs or outputs, and a number that is too large (refusals 1, 11 and 13).
 -- Assumes nothing.
-use Prim.Native.Nat.{ℕ, suc, _+_, _*_, _^_, _<_}
+use Prim.Native.Nat.{ℕ, suc, _+_, _*_, _^_}
 use mathlib.Core.Bool.{Bool, cond, _||_}
 use mathlib.Core.List.{List, [], _∷_}
 use lib.Dec.{ltb, leb}
 use lib.ListN.{length}
 use Rattle.reader.specs.declared.refusal.Refusal.{Refusal}
+-- every letter of a trace is below L
+unfoldable pub use Rattle.machine.specs.Letters.{Letters}
 use Rattle.automaton.specs.Limits.{nameLimit}
 
 -- refusal 1: more inputs or outputs than the limit
@@ -20,11 +22,6 @@ letterCount i o = 2 ^ (i + o)
 -- the letter of input x and output y, where there are `inputs` input numbers
 abbrev pub letterOf : (inputs x y : ℕ) → ℕ
 letterOf inputs x y = x + inputs * y
-
--- every letter of the list is below L
-unfoldable pub Letters : ℕ → List ℕ → Type 0
-Letters L [] = Unit {0}
-Letters L (a ∷ w) = (a < L) × Letters L w
 
 -- the index of the first number of a list that is `bound` or more, or the list's length
 unfoldable pub firstOver : (bound : ℕ) (w : List ℕ) → ℕ

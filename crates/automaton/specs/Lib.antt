@@ -6,6 +6,7 @@ pub mod Valuation
 pub mod State
 pub mod Discovery
 pub mod Automaton
+pub mod Buffer
 pub mod Condition
 pub mod Trial
 pub mod Construction

@@ -17,7 +17,8 @@ use reader::reading::Reading;
 use reader::reading::read;
 use reader::reading::too_long;
 use reader::refusal::Refusal;
-use reader::refusal::rule_refusal;
+use reader::refusal::Subject;
+use reader::refusal::text_refusal;
 
 // The answer: the number of states, or a refusal.
 pub enum Construction {
@@ -78,7 +79,7 @@ pub fn construct(
     let mut nodes = [0usize; 64];
     let reading = read(text, i as u8, o as u8, true, &mut nodes);
     let Reading::Good(count) = reading else {
-        return Construction::Refused(rule_refusal(reading));
+        return Construction::Refused(text_refusal(Subject::Rule, reading));
     };
     let n = build_nodes(&nodes, count, letters, transitions, accepting);
     if 128 < n {

@@ -9,7 +9,7 @@ ghost use Rattle.automaton.specs.inner.Evaluation.{nodeWord, Evaluated};
 use crate::bits::WORD_BITS;
 use crate::bits::test_bit;
 use crate::coordinates::coordinate;
-use crate::limits::NODE_LIMIT;
+use reader::limits::NODE_LIMIT;
 
 // All valuations.
 const ALL: u64 = 0xFFFF_FFFF_FFFF_FFFF;

@@ -1,16 +1,16 @@
 // The states of a formula's automaton, in the order of their discovery.
 ghost use mathlib.Core.Path.{_≡_};
 ghost use Prim.Native.Nat.{ℕ, suc, _+_, _*_, _/_, _≤_, _<_, _^_};
-ghost use lib.ListN.{length, getD, take};
+ghost use lib.ListN.{length, getD};
+ghost use Rattle.machine.specs.inner.Exploration.{Place};
 ghost use Rattle.reader.specs.Formula.{Formula, operators};
 ghost use Rattle.automaton.specs.Limits.{stateLimit};
 ghost use Rattle.automaton.specs.Bits.{bit, one};
 ghost use Rattle.automaton.specs.Valuation.{endVector};
 ghost use Rattle.automaton.specs.State.{start, after};
-ghost use Rattle.automaton.specs.Discovery.{position};
 ghost use Rattle.automaton.specs.inner.Representation.{Tabulates, Twins};
-ghost use Rattle.automaton.specs.Automaton.{Cleared};
-ghost use Rattle.automaton.specs.inner.Exploration.{Progress, Explored, StateExplored, BuiltAutomaton};
+ghost use Rattle.automaton.specs.Buffer.{Cleared};
+ghost use Rattle.automaton.specs.inner.Exploration.{wordAt, Progress, Explored, StateExplored, BuiltAutomaton};
 use crate::bits::set_pair;
 use crate::bits::test_bit;
 use crate::bytes::wide;
@@ -41,7 +41,7 @@ fn successor(table: &[u8; 8192], letter: usize, vectors: u64, state: u64) -> u64
 // The first position of x among the first n states, or n where it is not there.
 fn position_of(states: &[u64], n: usize, x: u64) -> usize
     requires { ⌜ n ≤ length (now states) ⌝ }
-    ensures { λ r. ⌜ r ≡ position x (take n (now (states .entry))) ⌝ }
+    ensures { λ r. ⌜ Place (wordAt (now (states .entry))) n x r ⌝ }
 {
     let mut i: usize = 0;
     while i < n {

@@ -8,9 +8,9 @@ ghost use Rattle.automaton.specs.Bits.{bit};
 ghost use Rattle.automaton.specs.inner.Representation.{Represents};
 ghost use Rattle.automaton.specs.inner.Fold.{valuation};
 use crate::bits::test_bit;
-use crate::limits::NODE_LIMIT;
 use crate::valuation::end_vector;
 use crate::valuation::present_vector;
+use reader::limits::NODE_LIMIT;
 
 // A byte as a letter.
 fn letter_of(b: u8) -> u64

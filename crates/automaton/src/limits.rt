@@ -1,10 +1,5 @@
 // The limits of the automaton layer, and the sizes that follow from them. specs/Limits.antt has the same ones for the contracts.
-
-// The reader's limit on nodes.
-pub const NODE_LIMIT: usize = 64;
-
-// The reader's limit on temporal operators.
-pub const OPERATOR_LIMIT: usize = 5;
+use reader::limits::OPERATOR_LIMIT;
 
 // Inputs at most, and outputs at most.
 pub const NAME_LIMIT: usize = 4;

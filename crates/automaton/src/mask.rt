@@ -8,9 +8,9 @@ ghost use Rattle.automaton.specs.Bits.{ofBits};
 ghost use Rattle.automaton.specs.Valuation.{value};
 ghost use Rattle.automaton.specs.inner.Representation.{Represents};
 use crate::bits::set_bit;
-use crate::limits::NODE_LIMIT;
 use crate::limits::NUMBER_LIMIT;
 use crate::valuation::root_value;
+use reader::limits::NODE_LIMIT;
 
 // The number of masks.
 const MASKS: u64 = 1 << NUMBER_LIMIT;

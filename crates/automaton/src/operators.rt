@@ -6,8 +6,8 @@ ghost use Rattle.reader.specs.Formula.{Formula, operators};
 ghost use Rattle.automaton.specs.Bits.{one};
 ghost use Rattle.automaton.specs.inner.Representation.{Represents};
 ghost use Rattle.automaton.specs.inner.Coordinates.{isTemporalNode, coordinateOf, Located, placeCount};
-use crate::limits::NODE_LIMIT;
 use crate::limits::PLACE_COUNT;
+use reader::limits::NODE_LIMIT;
 
 // 1 for the node of a temporal operator, 0 for any other.
 fn operator_bit(node: usize) -> u64

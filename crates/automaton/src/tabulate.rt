@@ -9,13 +9,13 @@ ghost use Rattle.automaton.specs.Bits.{bit, ofBits};
 ghost use Rattle.automaton.specs.inner.Representation.{Represents, Tabulates};
 ghost use Rattle.automaton.specs.inner.Coordinates.{Located};
 use crate::limits::COORDINATE_LIMIT;
-use crate::limits::NODE_LIMIT;
 use crate::limits::PAIR_LIMIT;
 use crate::limits::PLACE_COUNT;
 use crate::limits::TABLE_SIZE;
 use crate::operators::operator_nodes;
 use crate::valuation::letter_words;
 use crate::valuation::vector_from;
+use reader::limits::NODE_LIMIT;
 
 // Fills the row of a letter, which begins at `first`, by the valuations that the coordinates' words make from every second valuation.
 fn fill_row(

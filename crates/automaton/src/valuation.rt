@@ -15,9 +15,9 @@ use crate::evaluate::evaluate;
 use crate::evaluate::less_one;
 use crate::evaluate::word_at;
 use crate::limits::COORDINATE_LIMIT;
-use crate::limits::NODE_LIMIT;
 use crate::limits::PLACE_COUNT;
 use crate::operators::operator_nodes;
+use reader::limits::NODE_LIMIT;
 
 // The number at k, or 0 where there is none.
 fn node_at(nodes: &[usize], k: usize) -> usize

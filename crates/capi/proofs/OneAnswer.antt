@@ -9,7 +9,7 @@ use Rattle.automaton.specs.Trial.{trialNumber, trialPlace}
 use Rattle.automaton.proofs.OneAnswer.{one-trial}
 use Rattle.game.specs.declared.follow.Followed.{Followed}
 use Rattle.game.specs.Answer.{answerNumber, answerPlace, answerStates}
-use Rattle.game.specs.Arena.{arena}
+use Rattle.plays.specs.Arena.{arena}
 use Rattle.game.specs.Rule.{Buffers}
 use Rattle.game.specs.Agreement.{TablesAfter}
 use Rattle.game.proofs.OneAnswer.{one-rule, one-given}

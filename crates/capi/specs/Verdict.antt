@@ -7,7 +7,7 @@ use mathlib.Core.List.{List}
 use Rattle.game.specs.declared.answer.Answer.{Answer}
 use Rattle.game.specs.declared.answer.Answer.the-variants.{Can, Cannot, Refused}
 use Rattle.game.specs.Answer.{answerNumber, answerPlace, answerStates}
-use Rattle.game.specs.Arena.{Arena}
+use Rattle.plays.specs.Arena.{Arena}
 use Rattle.game.specs.Rule.{Buffers, RuleSolved}
 use Rattle.game.specs.Given.{GivenSolved}
 

@@ -1,8 +1,8 @@
 // Modes and truth values as C writes them.
 ghost use mathlib.Core.Path.{_≡_};
-ghost use Rattle.game.specs.Arena.{isFair};
+ghost use Rattle.plays.specs.Arena.{isFair};
 ghost use Rattle.capi.specs.Mode.{fairAt, truthOf, flagOf};
-use game::answer::Mode;
+use plays::mode::Mode;
 
 // The mode at a number: stable at 1, and fair at any other.
 pub(crate) fn mode_at(mode: u8) -> Mode

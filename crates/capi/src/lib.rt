@@ -4,7 +4,7 @@ mod step;
 mod trial;
 mod verdict;
 
-ghost use Rattle.game.specs.Arena.{arena};
+ghost use Rattle.plays.specs.Arena.{arena};
 ghost use Rattle.game.specs.Rule.{buffers};
 ghost use Rattle.game.specs.Follower.{followed};
 ghost use Rattle.capi.specs.Mode.{fairAt};

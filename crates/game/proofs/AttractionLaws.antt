@@ -7,7 +7,7 @@ use Prim.Native.Nat.{ℕ}
 use native.Mathlib.Omega.{arith}
 use lib.Dec.{ltb, leb}
 use borrow.Author.Tests.{ltb-true, ltb-false, leb-true, leb-false}
-use Rattle.game.specs.Arena.{Arena}
+use Rattle.plays.specs.Arena.{Arena}
 use Rattle.game.specs.inner.Solver.{everyRank, rankedBelow, Unranked, Apart, FirstUnserved, Attracted}
 use Rattle.reader.proofs.BoolLaws.{on}
 use Rattle.game.proofs.LimitLaws.{ranked-below, none-below}

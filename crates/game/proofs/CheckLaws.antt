@@ -9,7 +9,7 @@ use lib.Pow.{pow-mono, pow-pos}
 use borrow.Author.Tests.{ltb-false}
 use Rattle.automaton.specs.Alphabet.{badAlphabet}
 use Rattle.automaton.proofs.AlphabetLaws.{inputs-fit, outputs-fit}
-use Rattle.game.specs.Arena.{Arena}
+use Rattle.plays.specs.Arena.{Arena}
 use Rattle.game.specs.inner.Checks.{gameOf, InRange}
 use Rattle.game.specs.Given.{badCount, moveCount, shortRead}
 use Rattle.reader.proofs.BoolLaws.{or-left, or-right}

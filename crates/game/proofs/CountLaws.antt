@@ -10,7 +10,7 @@ use lib.ListN.{getD}
 use borrow.Author.Tests.{eq-eqb, ne-eqb}
 use Rattle.game.specs.inner.Solver.{Extends, Grows}
 use Rattle.reader.proofs.BoolLaws.{on, nonzero}
-use Rattle.game.proofs.CaseLaws.{same-or}
+use Rattle.plays.proofs.CaseLaws.{same-or}
 
 -- the number of states below n that have a rank
 unfoldable pub rankedCount : List ℕ → ℕ → ℕ

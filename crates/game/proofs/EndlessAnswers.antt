@@ -15,18 +15,19 @@ use Rattle.automaton.specs.Automaton.{Automaton}
 use Rattle.automaton.specs.Condition.{maskOf}
 use Rattle.game.specs.declared.answer.Answer.{Answer}
 use Rattle.game.specs.Answer.{verdictOf}
-use Rattle.game.specs.Arena.{Arena}
-use Rattle.game.specs.Play.{Step, Legal, letters, Along}
-use Rattle.game.specs.Strategy.{BySystem, ByEnvironment}
+use Rattle.plays.specs.Arena.{Arena}
+use Rattle.plays.specs.Play.{Step, Legal, letters, Along}
+use Rattle.plays.specs.Strategy.{BySystem, ByEnvironment}
 use Rattle.game.specs.Tables.{Verdict}
 use Rattle.game.specs.Given.{Solved, GivenSolved}
 use Rattle.game.specs.Rule.{Buffers, Satisfied, RuleServed, RuleSolved}
-use Rattle.game.specs.Way.{bySystem, byEnvironment, ordered, meet}
-use Rattle.game.specs.Endless.{first, Follows, Kept, CanEndless, Defeated, CannotEndless}
-use Rattle.game.specs.EndlessAnswer.{Satisfying, Reaching, Texts, arenaLeft, RuleEndless, GivenEndless}
-use Rattle.game.proofs.EndlessLaws.{first-long, first-take}
-use Rattle.game.proofs.WayLaws.{system-endless, environment-endless}
-use Rattle.game.proofs.RuleLaws.{take-along, take-letters, reached-satisfied, satisfied-reached, on-product}
+use Rattle.plays.specs.Way.{bySystem, byEnvironment, ordered, meet}
+use Rattle.plays.specs.Endless.{first, Follows, Kept, CanEndless, Defeated, CannotEndless, Reaching}
+use Rattle.game.specs.EndlessAnswer.{Satisfying, Texts, arenaLeft, RuleEndless, GivenEndless}
+use Rattle.plays.proofs.EndlessLaws.{first-long, first-take}
+use Rattle.plays.proofs.WayLaws.{system-endless, environment-endless}
+use Rattle.plays.proofs.PlayLaws.{take-along, take-letters}
+use Rattle.game.proofs.RuleLaws.{reached-satisfied, satisfied-reached, on-product}
 
 -- ---- a given automaton
 

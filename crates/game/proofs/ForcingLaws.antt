@@ -4,8 +4,9 @@ use mathlib.Core.Path.{_≡_}
 use mathlib.Core.Bool.{Bool, true, false}
 use mathlib.Core.Logic.{_⊎_}
 use Prim.Native.Nat.{ℕ, _+_, _*_, _<_}
-use Rattle.game.specs.Arena.{Arena, next}
-use Rattle.game.specs.inner.Rank.{Valid, Safe, Forces}
+use Rattle.plays.specs.Arena.{Arena, next}
+use Rattle.plays.specs.inner.Rank.{Safe, Forces}
+use Rattle.game.specs.inner.Game.{Valid}
 use Rattle.game.specs.inner.Solver.{Favorable}
 use Rattle.game.proofs.IndexLaws.{at-facts}
 

@@ -17,8 +17,8 @@ use Rattle.automaton.specs.Alphabet.{badAlphabet, firstOver}
 use Rattle.automaton.proofs.FirstOverLaws.{none-over, letter-at}
 use Rattle.game.specs.declared.answer.Answer.the-variants.{Refused}
 use Rattle.game.specs.Answer.{verdictOf}
-use Rattle.game.specs.Arena.{Arena, arena}
-use Rattle.game.specs.inner.Rank.{Valid}
+use Rattle.plays.specs.Arena.{Arena, arena}
+use Rattle.game.specs.inner.Game.{Valid}
 use Rattle.game.specs.Tables.{Tables, Verdict}
 use Rattle.game.specs.Given.{badCount, moveCount, shortRead, shortTables, badMask, laterRefusal, givenRefusal, Solved}
 use Rattle.reader.proofs.BoolLaws.{on, or-left, or-right}

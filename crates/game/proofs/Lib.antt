@@ -1,6 +1,5 @@
 pub mod AnswerLaws
 pub mod IndexLaws
-pub mod CaseLaws
 pub mod LimitLaws
 pub mod CountLaws
 pub mod ForcingLaws
@@ -10,7 +9,6 @@ pub mod AttractionLaws
 pub mod PassLaws
 pub mod PromotionLaws
 pub mod RoundLaws
-pub mod PlayLaws
 pub mod TableLaws
 pub mod StrategyLaws
 pub mod CheckLaws
@@ -20,8 +18,5 @@ pub mod FollowLaws
 pub mod RuleLaws
 pub mod RuleCheckLaws
 pub mod RuleCallLaws
-pub mod Determined
 pub mod OneAnswer
-pub mod EndlessLaws
-pub mod WayLaws
 pub mod EndlessAnswers

@@ -10,7 +10,7 @@ use lib.ListN.{getD, replicate}
 use borrow.Author.Tests.{eq-eqb, ne-eqb, ltb-true, lt-ltb}
 use Rattle.game.specs.inner.Solver.{rankedBelow}
 use Rattle.reader.proofs.BoolLaws.{on, clash, not-true→, and-true, nonzero}
-use Rattle.game.proofs.CaseLaws.{zero-or}
+use Rattle.plays.proofs.CaseLaws.{zero-or}
 
 -- no state has a rank in a list of zeros
 pub zeros : (n t : ℕ) → getD (replicate {A = ℕ} n 0) t 0 ≡ 0

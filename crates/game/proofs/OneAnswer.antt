@@ -34,8 +34,8 @@ use Rattle.game.specs.declared.answer.Answer.the-variants.{Refused}
 use Rattle.game.specs.declared.follow.Position.{Position}
 use Rattle.game.specs.declared.follow.Followed.{Followed}
 use Rattle.game.specs.Answer.{answerNumber, answerStates, verdictOf}
-use Rattle.game.specs.Arena.{Arena, arena}
-use Rattle.game.specs.Strategy.{environmentByte, SystemWins, EnvironmentWins}
+use Rattle.plays.specs.Arena.{Arena, arena}
+use Rattle.plays.specs.Strategy.{environmentByte, SystemWins, EnvironmentWins}
 use Rattle.game.specs.Tables.{noMove, SystemState, EnvironmentState, Tables, Verdict}
 use Rattle.game.specs.Given.{givenRefusal, GivenSolved}
 use Rattle.game.specs.Rule.{Buffers, ruleRefusal, RuleSolved}
@@ -43,7 +43,7 @@ use Rattle.game.specs.Follower.{FollowedBy}
 use Rattle.game.specs.Agreement.{isNoMove, Free, TableAgrees, TablesAgree, TablesAfter, GivenAgree, RuleAgree}
 use Rattle.game.proofs.AnswerLaws.{verdict-states}
 use Rattle.game.proofs.GivenLaws.{passed}
-use Rattle.game.proofs.Determined.{one-winner}
+use Rattle.plays.proofs.Determined.{one-winner}
 
 -- ---- one verdict, and tables that agree
 

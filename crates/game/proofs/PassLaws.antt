@@ -7,10 +7,10 @@ use Prim.Native.Nat.{ℕ, _+_, _<_, _≤_}
 use native.Mathlib.Omega.{arith}
 use lib.ListN.{length, getD, set}
 use lib.Seq.{getD-set-same, getD-set-other}
-use Rattle.game.specs.Arena.{Arena}
-use Rattle.game.specs.inner.Rank.{Valid}
+use Rattle.plays.specs.Arena.{Arena}
+use Rattle.game.specs.inner.Game.{Valid}
 use Rattle.game.specs.inner.Solver.{everyRank, rankedBelow, Unranked, Attracts, Keeps, InnerRanks, Passed, Attraction}
-use Rattle.game.proofs.CaseLaws.{zero-or, same-or}
+use Rattle.plays.proofs.CaseLaws.{zero-or, same-or}
 use Rattle.game.proofs.LimitLaws.{none-below, not-below, below-none, same-below}
 use Rattle.game.proofs.ForcingLaws.{favorable-map}
 

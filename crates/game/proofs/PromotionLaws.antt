@@ -8,7 +8,7 @@ use native.Mathlib.Omega.{arith}
 use lib.ListN.{length, getD, set}
 use lib.Seq.{getD-set-same, getD-set-other}
 use Rattle.game.specs.inner.Solver.{Unranked, Promoted}
-use Rattle.game.proofs.CaseLaws.{zero-or, same-or}
+use Rattle.plays.proofs.CaseLaws.{zero-or, same-or}
 
 pub promotion-starts : {r : ℕ} {outer inner : List ℕ} → Promoted 0 r outer inner outer false
 promotion-starts =

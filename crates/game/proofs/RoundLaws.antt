@@ -7,10 +7,11 @@ use mathlib.Core.Logic.{_⊎_, ⊎-elim}
 use Prim.Native.Nat.{ℕ, _+_, _<_, _≤_}
 use native.Mathlib.Omega.{arith}
 use lib.ListN.{getD}
-use Rattle.game.specs.Arena.{Arena}
-use Rattle.game.specs.inner.Rank.{Valid, Forces, Falls, Ranked, Ranking}
+use Rattle.plays.specs.Arena.{Arena}
+use Rattle.plays.specs.inner.Rank.{Forces, Falls, Ranked, Ranking}
+use Rattle.game.specs.inner.Game.{Valid}
 use Rattle.game.specs.inner.Solver.{everyRank, rankedBelow, Unranked, Favorable, Grows, Attraction, Promoted}
-use Rattle.game.proofs.CaseLaws.{zero-or, below-or}
+use Rattle.plays.proofs.CaseLaws.{zero-or, below-or}
 use Rattle.game.proofs.LimitLaws.{ranked-below, below-none}
 use Rattle.game.proofs.ForcingLaws.{forces-map}
 

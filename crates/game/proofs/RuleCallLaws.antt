@@ -31,8 +31,8 @@ use Rattle.automaton.proofs.ConstructionLaws.{long-enough}
 use Rattle.game.specs.declared.answer.Answer.{Answer}
 use Rattle.game.specs.declared.answer.Answer.the-variants.{Refused}
 use Rattle.game.specs.Answer.{answerNumber, answerPlace, verdictOf}
-use Rattle.game.specs.Arena.{Arena, arena}
-use Rattle.game.specs.inner.Rank.{Valid}
+use Rattle.plays.specs.Arena.{Arena, arena}
+use Rattle.game.specs.inner.Game.{Valid}
 use Rattle.game.specs.Tables.{Tables, Verdict}
 use Rattle.game.specs.Rule.{Buffers, buffers, shortBuffers, ruleRefusal, RuleSolved}
 use Rattle.game.specs.inner.RuleChecks.{TestsPassed, RuleChecked}

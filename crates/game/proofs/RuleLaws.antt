@@ -10,59 +10,35 @@ use native.Mathlib.Nat.{mul-le-mul-right, mul-pos, div-add-mod', div-lt-iff-lt-m
 use native.Mathlib.Omega.{arith}
 use lib.ListN.{length, getD, take}
 use lib.Pow.{pow-add, pow-pos}
+use Rattle.machine.specs.Letters.{Trace}
+use Rattle.machine.specs.Machine.{Machine}
+use Rattle.machine.specs.Run as machine
+use Rattle.machine.specs.Discovery.{begin}
+use Rattle.machine.specs.Automaton as automata
+use Rattle.machine.specs.Automaton.{walk}
 use Rattle.reader.specs.Formula.{Formula}
 use Rattle.automaton.specs.Limits.{stateLimit}
 use Rattle.automaton.specs.Alphabet.{badAlphabet, Letters, letterCount, letterOf}
 use Rattle.automaton.specs.Bits.{one}
 use Rattle.automaton.specs.Trace.{Satisfies}
 use Rattle.automaton.specs.State.{start, accepts}
-use Rattle.automaton.specs.Discovery.{begin, states}
-use Rattle.automaton.specs.Automaton.{walk, Automaton}
-use Rattle.game.specs.Arena.{Arena, arena, next, goal}
-use Rattle.game.specs.Play.{Step, Legal, entered, run, reaches, letters, Along}
-use Rattle.game.specs.Strategy.{BySystem, ByEnvironment, SystemWins, EnvironmentWins}
-use Rattle.game.specs.inner.Rank.{Valid}
+use Rattle.automaton.specs.Discovery.{states}
+use Rattle.automaton.specs.Automaton.{Automaton}
+use Rattle.plays.specs.Arena.{Arena, arena, next, goal}
+use Rattle.plays.specs.Play.{Step, Legal, entered, run, reaches, letters, Along}
+use Rattle.plays.specs.Strategy.{BySystem, ByEnvironment, SystemWins, EnvironmentWins}
+use Rattle.game.specs.inner.Game.{Valid}
 use Rattle.game.specs.Rule.{Satisfied, Can, Cannot}
-use Rattle.reader.proofs.BoolLaws.{on, clash, or-cases, or-true}
+use Rattle.reader.proofs.BoolLaws.{on, clash}
+use Rattle.plays.proofs.PlayLaws.{take-along, take-letters, reaches-beginning, beginning-reaches}
 use Rattle.game.proofs.IndexLaws.{letter-below}
 use Rattle.automaton.proofs.AlphabetLaws.{inputs-fit, outputs-fit}
 use Rattle.game.proofs.CheckLaws.{small-power}
 
--- a beginning of a play
 module _ (G : Arena) where
-  pub take-along : (R : ℕ → Step → Type 0) (s : ℕ) (p : List Step) (k : ℕ) → Along G R s p → Along G R s (take k p)
-  unfolding Along
-  take-along R s p zero h = tt
-  take-along R s [] (suc k) h = tt
-  take-along R s (a ∷ p) (suc k) h = (h .0, take-along R (entered G s a) p k (h .1))
-
-  pub take-letters : (p : List Step) (k : ℕ) → take k (letters G p) ≡ letters G (take k p)
-  unfolding letters
-  take-letters p zero = refl
-  take-letters [] (suc k) = refl
-  take-letters (a ∷ p) (suc k) = ap (λ (w : List ℕ). letterOf (G .inputs) (a .input) (a .output) ∷ w) (take-letters p k)
-
-  -- a play reaches a goal exactly when some beginning of it stands on one
-  reaches-beginning : (s : ℕ) (p : List Step) → reaches G s p ≡ true → (k : ℕ) × (0 < k) × (k ≤ length p) × (goal G (run G s (take k p)) ≡ true)
-  unfolding reaches run
-  reaches-beginning s [] e = absurd (mathlib.Core.Bool.false≢true e)
-  reaches-beginning s (a ∷ p) e =
-      ⊎-elim
-      (λ g. (1, omega arith, omega arith, g))
-      (λ h. let w = reaches-beginning (entered G s a) p h in (suc (w .0), omega arith, omega (arith, w .2), w .3))
-      (or-cases (goal G (entered G s a)) (reaches G (entered G s a) p) e)
-
-  beginning-reaches : (s : ℕ) (p : List Step) (k : ℕ) → 0 < k → k ≤ length p → goal G (run G s (take k p)) ≡ true → reaches G s p ≡ true
-  unfolding reaches run
-  beginning-reaches s p zero z l g = absurd (let z : ⊥ = omega arith in z)
-  beginning-reaches s [] (suc k) z l g = absurd (let z : ⊥ = omega arith in z)
-  beginning-reaches s (a ∷ p) (suc zero) z l g = rw g
-  beginning-reaches s (a ∷ p) (suc (suc k)) z l g =
-      rw (beginning-reaches (entered G s a) p (suc k) (omega arith) (omega arith) g) (or-true (goal G (entered G s a)))
-
   -- the transitions follow the letters as a play follows its steps
   walk-run : (s : ℕ) (p : List Step) → walk (G .transitions) (G .inputs * G .outputs) s (letters G p) ≡ run G s p
-  unfolding walk run letters next
+  unfolding machine.run run letters next
   walk-run s [] = refl
   walk-run s (a ∷ p) = walk-run (entered G s a) p
 
@@ -75,8 +51,9 @@ module _ (G : Arena) where
       (letter-below (G .inputs) (G .outputs) (a .input) (a .output) (l .0) (l .1), steps-letters R legal (entered G s a) p (h .1))
 
 -- the start is a state
-pub some-state : {φ : Formula} {L n : ℕ} {transitions flags : List ℕ} → Automaton φ L n transitions flags → 0 < n
-some-state {φ} automaton = let w = automaton .numbering .complete (start φ) begin in omega (arith, w .1, automaton .count)
+pub some-state : {S : Type 0} {M : Machine S} {Good : Trace → Type 0} {L limit n : ℕ} {transitions flags : List ℕ}
+    → automata.Automaton M Good L limit n transitions flags → 0 < n
+some-state {M = M} automaton = let w = automaton .numbering .complete (M .first) begin in omega (arith, w .1, automaton .count)
 
 -- The arena is that of the formula's automaton, and R allows only steps in range.
 module _ (φ : Formula) (G : Arena) (automaton : Automaton φ (G .inputs * G .outputs) (G .states) (G .transitions) (G .accepting))
@@ -92,7 +69,7 @@ module _ (φ : Formula) (G : Arena) (automaton : Automaton φ (G .inputs * G .ou
   goal-flag : (s : ℕ) → s < G .states → goal G s ≡ true → getD (G .accepting) s 0 ≡ 1
   unfolding goal
   goal-flag s l g =
-      on (accepts φ (getD (states φ (G .inputs * G .outputs)) s 0))
+      on (accepts φ (getD (states φ (G .inputs * G .outputs)) s (start φ)))
       (λ t. automaton .marked s l ∙ ap one t)
       (λ f. clash (goal G s) g (rw (automaton .marked s l ∙ ap one f)))
 

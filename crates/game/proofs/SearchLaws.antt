@@ -4,7 +4,7 @@ use mathlib.Core.Path.{_≡_, sym, subst}
 use mathlib.Core.Bool.{Bool, false}
 use Prim.Native.Nat.{ℕ, _+_, _<_, _≤_}
 use native.Mathlib.Omega.{arith}
-use Rattle.game.proofs.CaseLaws.{same-or, below-or}
+use Rattle.plays.proofs.CaseLaws.{same-or, below-or}
 
 -- of n outputs, the d before y, going around, do not serve; before the first is tried, y may be any number
 pub record Tried (f : ℕ → Bool) (n d y : ℕ) : Type 0 where

@@ -7,8 +7,8 @@ use Prim.Native.Nat.{ℕ, _<_, _≤_}
 use native.Mathlib.Omega.{arith}
 use lib.ListN.{getD}
 use borrow.Author.Tests.{eq-eqb, ne-eqb}
-use Rattle.game.specs.Arena.{Arena, next, goal, holds, lacks}
-use Rattle.game.specs.inner.Rank.{Safe, Forces}
+use Rattle.plays.specs.Arena.{Arena, next, goal, holds, lacks}
+use Rattle.plays.specs.inner.Rank.{Safe, Forces}
 use Rattle.game.specs.inner.Solver.{servingAt, FirstUnserved, Favorable}
 use Rattle.reader.proofs.BoolLaws.{clash, not-true→, not-false→, or-left, or-right, or-cases, or-true, or-false, and-true, and-cases}
 

@@ -11,14 +11,14 @@ use lib.Dec.{eqb}
 use lib.ListN.{getD}
 use borrow.Author.Tests.{eqb-true, eqb-false}
 use Rattle.automaton.specs.Limits.{stateLimit}
-use Rattle.game.specs.Arena.{Arena}
-use Rattle.game.specs.Strategy.{systemByte, environmentByte}
-use Rattle.game.specs.inner.Rank.{Ranked, Ranking}
+use Rattle.plays.specs.Arena.{Arena}
+use Rattle.plays.specs.Strategy.{systemByte, environmentByte}
+use Rattle.plays.specs.inner.Rank.{Ranked, Ranking, AllowedOutput, AllowedInput}
 use Rattle.game.specs.Tables.{SystemState, EnvironmentState, Tables, Verdict, noMove}
-use Rattle.game.specs.inner.Bytes.{AllowedOutput, AllowedInput, SystemByte, SystemFilled, EnvironmentFilled}
+use Rattle.game.specs.inner.Bytes.{SystemByte, SystemFilled, EnvironmentFilled}
 use Rattle.reader.proofs.BoolLaws.{on, nonzero}
 use Rattle.game.proofs.IndexLaws.{row-below}
-use Rattle.game.proofs.PlayLaws.{system-wins, environment-wins}
+use Rattle.plays.proofs.RankLaws.{system-wins, environment-wins}
 
 -- the state and the input of an index into the system's table
 row-div : (P s x : ℕ) → x < P → (s * P + x) / P ≡ s

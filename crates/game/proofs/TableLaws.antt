@@ -10,10 +10,10 @@ use lib.Dec.{eqb, leb}
 use lib.ListN.{length, getD, set}
 use lib.Seq.{getD-set-same, getD-set-other}
 use borrow.Author.Tests.{eqb-true, eqb-false, eq-eqb, ne-eqb, leb-true, leb-false}
-use Rattle.game.specs.Arena.{Arena, next, goal, holds, lacks}
-use Rattle.game.specs.inner.Rank.{judged, Safe, Falls, Ranked}
+use Rattle.plays.specs.Arena.{Arena, next, goal, holds, lacks}
+use Rattle.plays.specs.inner.Rank.{judged, Safe, Falls, Ranked, AllowedInput}
 use Rattle.game.specs.Tables.{noMove}
-use Rattle.game.specs.inner.Bytes.{limitOf, Below, IsBelow, GoodOutput, SomeOutput, EveryOutput, AllowedInput, SystemByte, EnvironmentByte}
+use Rattle.game.specs.inner.Bytes.{limitOf, Below, IsBelow, GoodOutput, SomeOutput, EveryOutput, SystemByte, EnvironmentByte}
 use Rattle.game.proofs.ForcingLaws.{safe-map}
 use Rattle.reader.proofs.BoolLaws.{on, clash}
 

@@ -12,18 +12,14 @@ use Rattle.automaton.specs.Trace.{Satisfies}
 use Rattle.automaton.specs.Condition.{maskOf, Judges}
 use Rattle.game.specs.declared.answer.Answer.{Answer}
 use Rattle.game.specs.declared.answer.Answer.the-variants.{Can, Cannot, Refused}
-use Rattle.game.specs.Arena.{Arena, arena}
-use Rattle.game.specs.Play.{Step, letters, reaches}
+use Rattle.plays.specs.Arena.{Arena, arena}
+use Rattle.plays.specs.Play.{Step, letters}
 use Rattle.game.specs.Rule.{Buffers}
-use Rattle.game.specs.Endless.{CanEndless, CannotEndless}
+use Rattle.plays.specs.Endless.{Reaching, CanEndless, CannotEndless}
 
 -- a beginning satisfies the rule
 abbrev pub Satisfying : Formula → Arena → List Step → Type 0
 Satisfying φ G p = Satisfies φ (letters G p)
-
--- a step of the beginning enters a goal
-abbrev pub Reaching : Arena → ℕ → List Step → Type 0
-Reaching G s p = reaches G s p ≡ true
 
 -- the formulas of a rule and of a condition, whose mask judges inputs as the condition does
 pub record Texts (i o : ℕ) (rule condition : List ℕ) : Type 0 where

@@ -14,8 +14,8 @@ use Rattle.automaton.specs.Alphabet.{badAlphabet}
 use Rattle.game.specs.declared.follow.Position.{Position}
 use Rattle.game.specs.declared.follow.Followed.{Followed}
 use Rattle.game.specs.declared.follow.Followed.the-variants.{Moved, NoRow, Refused}
-use Rattle.game.specs.Arena.{Arena, moveIndex, next, goal}
-use Rattle.game.specs.Strategy.{systemByte}
+use Rattle.plays.specs.Arena.{Arena, moveIndex, next, goal}
+use Rattle.plays.specs.Strategy.{systemByte}
 use Rattle.game.specs.Given.{badCount, shortRead}
 
 -- refusal 3, for the table that is read: n states' share

@@ -15,7 +15,7 @@ use Rattle.automaton.specs.Alphabet.{badAlphabet, afterList}
 use Rattle.game.specs.declared.answer.Answer.{Answer}
 use Rattle.game.specs.declared.answer.Answer.the-variants.{Refused}
 use Rattle.game.specs.Answer.{answerNumber, answerPlace, verdictOf}
-use Rattle.game.specs.Arena.{Arena}
+use Rattle.plays.specs.Arena.{Arena}
 use Rattle.game.specs.Tables.{Tables, Verdict}
 
 -- refusal 10: no states, or more than 128

@@ -1,12 +1,7 @@
-pub mod Arena
-pub mod Play
-pub mod Strategy
 pub mod Tables
 pub mod Answer
 pub mod Given
 pub mod Rule
-pub mod Way
-pub mod Endless
 pub mod EndlessAnswer
 pub mod Follower
 pub mod Agreement

@@ -17,15 +17,16 @@ use Rattle.reader.specs.Refusal.{numberOf, placeOf, afterRule, afterCondition}
 use Rattle.automaton.specs.Limits.{stateLimit}
 use Rattle.automaton.specs.Alphabet.{badAlphabet, letterCount}
 use Rattle.automaton.specs.Trace.{Satisfies}
-use Rattle.automaton.specs.Automaton.{Automaton, Cleared}
+use Rattle.automaton.specs.Automaton.{Automaton}
+use Rattle.automaton.specs.Buffer.{Cleared}
 use Rattle.automaton.specs.Construction.{CountOf, shortAutomaton, Over}
 use Rattle.automaton.specs.Condition.{maskOf, Judges}
 use Rattle.game.specs.declared.answer.Answer.{Answer}
 use Rattle.game.specs.declared.answer.Answer.the-variants.{Refused}
 use Rattle.game.specs.Answer.{answerNumber, answerPlace, verdictOf}
-use Rattle.game.specs.Arena.{Arena, arena}
-use Rattle.game.specs.Play.{Step, run, letters, Along}
-use Rattle.game.specs.Strategy.{systemByte, environmentByte, BySystem, ByEnvironment, Assumed, Failed}
+use Rattle.plays.specs.Arena.{Arena, arena}
+use Rattle.plays.specs.Play.{Step, run, letters, Along}
+use Rattle.plays.specs.Strategy.{systemByte, environmentByte, BySystem, ByEnvironment, Assumed, Failed}
 use Rattle.game.specs.Tables.{Tables, Verdict}
 
 -- a beginning of the play, its first k steps for a k from 1 to its length, satisfies the rule

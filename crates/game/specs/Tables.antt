@@ -8,8 +8,8 @@ use mathlib.Core.List.{List}
 use mathlib.Core.Logic.{_⊎_}
 use lib.ListN.{length, getD}
 use Rattle.automaton.specs.Limits.{stateLimit}
-use Rattle.game.specs.Arena.{Arena}
-use Rattle.game.specs.Strategy.{systemByte, environmentByte, SystemWins, EnvironmentWins}
+use Rattle.plays.specs.Arena.{Arena}
+use Rattle.plays.specs.Strategy.{systemByte, environmentByte, SystemWins, EnvironmentWins}
 
 -- the byte where a player has no move
 abbrev pub noMove : ℕ

@@ -2,8 +2,8 @@
 ghost use mathlib.Core.Path.{_≡_};
 ghost use Prim.Native.Nat.{ℕ, _<_};
 ghost use Rattle.automaton.specs.Bits.{bit};
-ghost use Rattle.game.specs.Arena.{Arena, next};
-ghost use Rattle.game.specs.inner.Rank.{arenaOf, Closed, Entered};
+ghost use Rattle.plays.specs.Arena.{Arena, next};
+ghost use Rattle.game.specs.inner.Game.{arenaOf, Closed, Entered};
 use automaton::bytes::wide;
 
 // The mode, the condition's mask, and the numbers of states, inputs and outputs.

@@ -2,13 +2,13 @@
 ghost use mathlib.Core.Path.{_≡_};
 ghost use mathlib.Core.Bool.{false};
 ghost use Rattle.automaton.specs.Alphabet.{badAlphabet};
-ghost use Rattle.game.specs.Arena.{isFair};
-ghost use Rattle.game.specs.inner.Rank.{arenaOf};
+ghost use Rattle.plays.specs.Arena.{isFair};
+ghost use Rattle.game.specs.inner.Game.{arenaOf};
 ghost use Rattle.game.specs.inner.Checks.{gameOf, InRange};
 ghost use Rattle.game.specs.Given.{badCount, shortRead};
-use crate::answer::Mode;
 use crate::arena::Game;
 use automaton::alphabet::power;
+use plays::mode::Mode;
 
 // Whether there are no states or more than 128.
 pub(crate) fn bad_count(n: usize) -> bool

@@ -4,18 +4,18 @@ ghost use mathlib.Core.Bool.{false, not, _||_};
 ghost use Prim.Native.Nat.{_<_};
 ghost use mathlib.Core.List.{[]};
 ghost use lib.Dec.{eqb};
-ghost use Rattle.game.specs.Arena.{arena};
-ghost use Rattle.game.specs.inner.Rank.{arenaOf};
+ghost use Rattle.plays.specs.Arena.{arena};
+ghost use Rattle.game.specs.inner.Game.{arenaOf};
 ghost use Rattle.game.specs.inner.Checks.{InRange};
 ghost use Rattle.game.specs.Given.{shortRead};
 ghost use Rattle.game.specs.Follower.{shortStrategy, movedBy, laterFollowed, FollowedBy};
-use crate::answer::Mode;
 use crate::arena::Game;
 use crate::checks::bad_count;
 use crate::checks::game_of;
 use crate::checks::short_read;
 use automaton::alphabet::bad_alphabet;
 use automaton::bytes::wide;
+use plays::mode::Mode;
 use reader::refusal::Refusal;
 
 // A place in a play: the state, and whether a goal was entered.

@@ -4,12 +4,11 @@ ghost use mathlib.Core.Bool.{not};
 ghost use Prim.Native.Nat.{_/_, _^_, _≤_};
 ghost use mathlib.Core.List.{[]};
 ghost use lib.Dec.{eqb};
-ghost use Rattle.game.specs.Arena.{arena, isFair};
-ghost use Rattle.game.specs.inner.Rank.{arenaOf};
+ghost use Rattle.plays.specs.Arena.{arena, isFair};
+ghost use Rattle.game.specs.inner.Game.{arenaOf};
 ghost use Rattle.game.specs.inner.Checks.{InRange};
 ghost use Rattle.game.specs.Given.{shortTables, laterRefusal, givenRefusal, GivenSolved};
 use crate::answer::Answer;
-use crate::answer::Mode;
 use crate::arena::Game;
 use crate::checks::bad_count;
 use crate::checks::game_of;
@@ -17,6 +16,7 @@ use crate::checks::short_read;
 use crate::tables::decide;
 use automaton::alphabet::bad_alphabet;
 use automaton::alphabet::first_over;
+use plays::mode::Mode;
 use reader::refusal::Refusal;
 
 // Whether a table is too short for 128 states.

@@ -3,11 +3,10 @@ ghost use mathlib.Core.Path.{_≡_};
 ghost use mathlib.Core.Bool.{false};
 ghost use Rattle.reader.specs.Limits.{tooLong};
 ghost use Rattle.automaton.specs.Alphabet.{badAlphabet};
-ghost use Rattle.game.specs.Arena.{isFair};
+ghost use Rattle.plays.specs.Arena.{isFair};
 ghost use Rattle.game.specs.Rule.{Buffers, buffers, shortBuffers, RuleSolved};
 ghost use Rattle.game.specs.inner.RuleChecks.{RuleChecked};
 use crate::answer::Answer;
-use crate::answer::Mode;
 use crate::checks::game_of;
 use crate::tables::decide;
 use automaton::alphabet::bad_alphabet;
@@ -16,11 +15,13 @@ use automaton::condition::Assumption;
 use automaton::condition::read_condition;
 use automaton::construct::Construction;
 use automaton::construct::construct;
+use plays::mode::Mode;
 use reader::reading::Reading;
 use reader::reading::check;
 use reader::reading::too_long;
 use reader::refusal::Refusal;
-use reader::refusal::rule_refusal;
+use reader::refusal::Subject;
+use reader::refusal::text_refusal;
 
 // What the tests come to before the automaton is built: a refusal, or nothing and the condition's mask.
 pub struct Checked {
@@ -60,7 +61,7 @@ fn check_texts(i: usize, o: usize, rule: &[u8], condition: &[u8]) -> Checked
     let reading = check(rule, i as u8, o as u8, true);
     let Reading::Good(_) = reading else {
         return Checked {
-            refusal: rule_refusal(reading),
+            refusal: text_refusal(Subject::Rule, reading),
             mask: 0,
         };
     };

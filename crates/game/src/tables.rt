@@ -3,8 +3,9 @@ ghost use mathlib.Core.Path.{_≡_};
 ghost use mathlib.Core.Bool.{Bool, true, false, not};
 ghost use Prim.Native.Nat.{ℕ, _*_, _<_, _≤_};
 ghost use lib.ListN.{length, getD};
-ghost use Rattle.game.specs.Arena.{Arena};
-ghost use Rattle.game.specs.inner.Rank.{arenaOf, Valid, Ranked, Ranking};
+ghost use Rattle.plays.specs.Arena.{Arena};
+ghost use Rattle.plays.specs.inner.Rank.{Ranked, Ranking};
+ghost use Rattle.game.specs.inner.Game.{arenaOf, Valid};
 ghost use Rattle.game.specs.Tables.{Tables, Verdict};
 ghost use Rattle.game.specs.inner.Bytes.{
   limitOf,

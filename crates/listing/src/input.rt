@@ -3,9 +3,9 @@ ghost use mathlib.Core.Path.{_≡_};
 ghost use mathlib.Core.Bool.{true, cond};
 ghost use Prim.Native.Nat.{_≤_, _<_};
 ghost use lib.ListN.{length, getD, drop};
-ghost use Rattle.game.specs.Arena.{isFair};
+ghost use Rattle.plays.specs.Arena.{isFair};
 ghost use Rattle.listing.specs.inner.Scan.{beginsWith, lineEnd, isDigit, digitAt, digitLine, isFairLine, isStableLine, conditionStart, hasTexts, isRequest};
-use game::answer::Mode;
+use plays::mode::Mode;
 
 // Whether the text from a place on begins with a word.
 fn begins_with(text: &[u8], at: usize, word: &[u8]) -> bool

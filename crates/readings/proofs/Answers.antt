@@ -16,10 +16,10 @@ use Rattle.automaton.specs.Automaton.{Automaton}
 use Rattle.automaton.specs.Condition.{maskOf, Judges}
 use Rattle.game.specs.declared.answer.Answer.{Answer}
 use Rattle.game.specs.Answer.{verdictOf}
-use Rattle.game.specs.Arena.{Arena, arena, isFair}
+use Rattle.plays.specs.Arena.{Arena, arena, isFair}
 use Rattle.game.specs.Tables.{Tables, Verdict}
 use Rattle.game.specs.Rule.{Buffers, shortBuffers, ruleRefusal, RuleServed}
-use Rattle.game.proofs.Determined.{one-winner}
+use Rattle.plays.proofs.Determined.{one-winner}
 use Rattle.readings.specs.Row.{Row, lettersOf, arenaFor, VerdictOn, RowHolds, SolvedFor, Answered, All}
 use Rattle.readings.specs.Rows.{rows}
 use Rattle.readings.proofs.Readings.{readings}

@@ -22,7 +22,7 @@ use Rattle.automaton.specs.Automaton.{Automaton}
 use Rattle.automaton.specs.Condition.{maskOf, Judges}
 use Rattle.automaton.specs.Discovery.{stateCount}
 use Rattle.automaton.proofs.ConditionLaws.{mask-judges}
-use Rattle.game.specs.Arena.{isFair}
+use Rattle.plays.specs.Arena.{isFair}
 use Rattle.readings.specs.Lists.{transitionsOf, flagsOf}
 use Rattle.readings.specs.Row.{Row, lettersOf, arenaFor, VerdictOn, RowHolds, All}
 use Rattle.readings.proofs.Tree.{formulaOf, readsBy}

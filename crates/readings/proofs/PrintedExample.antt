@@ -22,11 +22,11 @@ use Rattle.automaton.specs.State.{start, after, accepts}
 use Rattle.automaton.specs.Discovery.{position, extend, target, look, discovered, states, stateCount}
 use Rattle.game.specs.declared.answer.Answer.{Answer}
 use Rattle.game.specs.declared.answer.Answer.the-variants.{Cannot}
-use Rattle.game.specs.declared.answer.Mode.the-variants.{Fair}
-use Rattle.game.specs.Arena.{Arena, next, goal, holds}
+use Rattle.plays.specs.declared.mode.Mode.the-variants.{Fair}
+use Rattle.plays.specs.Arena.{Arena, next, goal, holds}
 use Rattle.game.specs.Tables.{SystemState, EnvironmentState}
 use Rattle.game.specs.Rule.{Buffers, shortBuffers}
-use Rattle.game.proofs.Determined.{one-winner}
+use Rattle.plays.proofs.Determined.{one-winner}
 use Rattle.listing.specs.Decimal.{digits, decimal}
 use Rattle.listing.specs.Input.{Line, Asks}
 use Rattle.listing.specs.Listing.{stateLines, verdictLines, listing}

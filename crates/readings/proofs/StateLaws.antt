@@ -5,9 +5,9 @@ use mathlib.Core.Path.{_≡_, refl, ap, _∙_}
 use mathlib.Core.Bool.{Bool, true, false}
 use mathlib.Core.List.{List, [], _∷_}
 use Rattle.reader.proofs.BoolLaws.{clash, or-left}
-use Rattle.game.specs.Arena.{Arena, next, goal}
-use Rattle.game.specs.Play.{Along, reaches}
-use Rattle.game.specs.Strategy.{environmentByte}
+use Rattle.plays.specs.Arena.{Arena, next, goal}
+use Rattle.plays.specs.Play.{Along, reaches}
+use Rattle.plays.specs.Strategy.{environmentByte}
 use Rattle.game.specs.Tables.{EnvironmentState}
 
 module _ {fair : Bool} {G : Arena} {σ τ : List ℕ} {s : ℕ} (won : EnvironmentState fair G σ τ s) where

@@ -6,9 +6,9 @@ use mathlib.Core.Bool.{Bool, true, false, not, _&&_, _||_}
 use mathlib.Core.List.{List}
 use lib.Dec.{eqb, ltb, leb}
 use lib.ListN.{length, getD}
-use Rattle.game.specs.Arena.{Arena, next, goal, holds}
-use Rattle.game.specs.inner.Rank.{judged}
-use Rattle.game.specs.Strategy.{systemByte, environmentByte}
+use Rattle.plays.specs.Arena.{Arena, next, goal, holds}
+use Rattle.plays.specs.inner.Rank.{judged}
+use Rattle.plays.specs.Strategy.{systemByte, environmentByte}
 
 -- f passes at each number below n
 unfoldable pub below : (ℕ → Bool) → ℕ → Bool

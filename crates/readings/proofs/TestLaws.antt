@@ -18,12 +18,11 @@ use Rattle.reader.proofs.BoolLaws.{on, and-true, or-cases, not-true→}
 use Rattle.automaton.specs.Alphabet.{letterOf, letterCount}
 use Rattle.automaton.specs.Bits.{bit}
 use Rattle.automaton.specs.Automaton.{Automaton}
-use Rattle.game.specs.Arena.{Arena, arena, next, goal, holds}
-use Rattle.game.specs.inner.Rank.{judged, Safe, Falls}
-use Rattle.game.specs.inner.Bytes.{AllowedOutput, AllowedInput}
-use Rattle.game.specs.Strategy.{systemByte, environmentByte, SystemWins, EnvironmentWins}
+use Rattle.plays.specs.Arena.{Arena, arena, next, goal, holds}
+use Rattle.plays.specs.inner.Rank.{judged, Safe, Falls, AllowedOutput, AllowedInput}
+use Rattle.plays.specs.Strategy.{systemByte, environmentByte, SystemWins, EnvironmentWins}
 use Rattle.game.proofs.IndexLaws.{letter-below}
-use Rattle.game.proofs.PlayLaws.{system-wins, environment-wins}
+use Rattle.plays.proofs.RankLaws.{system-wins, environment-wins}
 use Rattle.game.proofs.RuleLaws.{can-keep, cannot-keep}
 use Rattle.readings.specs.Row.{VerdictOn}
 use Rattle.readings.proofs.Test.{below, fallsOf, stepOf, outputOf, inputOf, bytesOf, stateOf, winsOf}

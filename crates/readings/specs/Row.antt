@@ -17,10 +17,10 @@ use Rattle.automaton.specs.Automaton.{Automaton}
 use Rattle.automaton.specs.Condition.{maskOf, Judges}
 use Rattle.automaton.specs.Discovery.{stateCount}
 use Rattle.game.specs.declared.answer.Answer.{Answer}
-use Rattle.game.specs.declared.answer.Mode.{Mode}
+use Rattle.plays.specs.declared.mode.Mode.{Mode}
 use Rattle.game.specs.Answer.{verdictOf}
-use Rattle.game.specs.Arena.{Arena, arena, isFair}
-use Rattle.game.specs.Strategy.{SystemWins, EnvironmentWins}
+use Rattle.plays.specs.Arena.{Arena, arena, isFair}
+use Rattle.plays.specs.Strategy.{SystemWins, EnvironmentWins}
 use Rattle.game.specs.Rule.{Can, Cannot, Buffers, shortBuffers, RuleSolved}
 use Rattle.readings.specs.Lists.{transitionsOf, flagsOf}
 

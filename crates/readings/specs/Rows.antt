@@ -3,7 +3,7 @@
 -- Assumes nothing.
 use mathlib.Core.Bool.{true, false}
 use mathlib.Core.List.{List, [], _∷_}
-use Rattle.game.specs.declared.answer.Mode.the-variants.{Fair, Stable}
+use Rattle.plays.specs.declared.mode.Mode.the-variants.{Fair, Stable}
 use Rattle.readings.specs.Row.{Row, row}
 
 unfoldable pub rows : List Row

@@ -2,12 +2,12 @@
 -- Assumes nothing.
 use Prim.Native.Nat.{ℕ, _*_, _-_, _/_, _%_, _<_, _≤_}
 use mathlib.Core.Path.{_≡_}
-use mathlib.Core.Bool.{Bool, true, false, not}
+use mathlib.Core.Bool.{Bool, true, false}
 use mathlib.Core.List.{List}
 use lib.ListN.{length, getD}
 use Rattle.automaton.specs.Limits.{stateLimit}
-use Rattle.game.specs.Arena.{Arena, next}
-use Rattle.game.specs.inner.Rank.{Safe, Falls}
+use Rattle.plays.specs.Arena.{Arena, next}
+use Rattle.plays.specs.inner.Rank.{Safe, AllowedOutput, AllowedInput}
 use Rattle.game.specs.Tables.{noMove}
 
 -- the largest rank that is allowed after a step from a state of rank `own`: a lower one at a judged input, and else no higher one where the ranks are steady
@@ -41,15 +41,6 @@ EveryOutput G r limit s x = (y : ℕ) → y < G .outputs → Safe G false (next 
 pub record IsSafe (G : Arena) (r : List ℕ) (limit s x : ℕ) (b : Bool) : Type 0 where
   pub safe : b ≡ true → EveryOutput G r limit s x
   pub unsafe : b ≡ false → EveryOutput G r limit s x → ⊥
-
--- the system's ranks allow output y for input x on state s
-abbrev pub AllowedOutput : Bool → Arena → List ℕ → ℕ → ℕ → ℕ → Type 0
-AllowedOutput fair G r s x y = (y < G .outputs) × Safe G true (next G s x y) (Falls G true fair r s x (next G s x y))
-
--- the environment's ranks allow input x on state s
-abbrev pub AllowedInput : Bool → Arena → List ℕ → ℕ → ℕ → Type 0
-AllowedInput fair G r s x =
-    (x < G .inputs) × ((y : ℕ) → y < G .outputs → Safe G false (next G s x y) (Falls G false (not fair) r s x (next G s x y)))
 
 -- the system's byte for state s and input x
 pub record SystemByte (fair : Bool) (G : Arena) (r : List ℕ) (s x b : ℕ) : Type 0 where

@@ -7,8 +7,8 @@ use mathlib.Core.Bool.{Bool, true, false, not, _||_, _&&_}
 use mathlib.Core.List.{List}
 use lib.Dec.{eqb, ltb}
 use lib.ListN.{getD}
-use Rattle.game.specs.Arena.{Arena, next, goal, lacks}
-use Rattle.game.specs.inner.Rank.{judged, Forces}
+use Rattle.plays.specs.Arena.{Arena, next, goal, lacks}
+use Rattle.plays.specs.inner.Rank.{judged, Forces}
 
 -- a limit above every rank
 abbrev pub everyRank : ℕ

@@ -78,8 +78,8 @@ read-requires c κs = search needs
 enum-known-reading : tie.Need-enum-known-reading
 enum-known-reading c = search needs
 
-condition-refusal-requires : tie.Need-condition-refusal-requires
-condition-refusal-requires c κs = search needs
+text-refusal-requires : tie.Need-text-refusal-requires
+text-refusal-requires c κs = search needs
 
 returns-3 : tie.Need-returns-3
 returns-3 c =
@@ -87,7 +87,7 @@ returns-3 c =
     let z = e .before .before .before .before .before .args in
     let r = c .before .before .read in
     by-reading (z .i) (now (z .text)) (fits e) (short e) (r .result) (r .ensures .0)
-    (not-good (r .result) (c .before .match .keys2)) (c .condition-refusal .result) (c .condition-refusal .ensures)
+    (not-good (r .result) (c .before .match .keys2)) (c .text-refusal .result) (c .text-refusal .ensures)
 
 power-requires : tie.Need-power-requires
 power-requires c κs = search needs
@@ -123,7 +123,7 @@ read-condition-spec =
     cast-read
     read-requires
     enum-known-reading
-    condition-refusal-requires
+    text-refusal-requires
     returns-3
     power-requires
     condition-mask-requires

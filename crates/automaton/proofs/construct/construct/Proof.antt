@@ -124,8 +124,8 @@ read-requires c κs = search needs
 enum-known-reading : tie.Need-enum-known-reading
 enum-known-reading c = search needs
 
-rule-refusal-requires : tie.Need-rule-refusal-requires
-rule-refusal-requires c κs = search needs
+text-refusal-requires : tie.Need-text-refusal-requires
+text-refusal-requires c κs = search needs
 
 same-length-3 : tie.Need-same-length-3
 same-length-3 c = search needs
@@ -139,7 +139,7 @@ returns-4 c =
     let e = powered g .before in
     let z = begin₂ e .args in
     let r = c .before .before .read in
-    by-reading (z .i) (z .o) (now (z .text)) (now (z .transitions)) (now (z .accepting)) (fits e) (short e) (buffers (g .before) false (g .if3 .left)) (r .result) (r .ensures .0) (not-good (r .result) (c .before .match .keys2)) (c .rule-refusal .result) (c .rule-refusal .ensures)
+    by-reading (z .i) (z .o) (now (z .text)) (now (z .transitions)) (now (z .accepting)) (fits e) (short e) (buffers (g .before) false (g .if3 .left)) (r .result) (r .ensures .0) (not-good (r .result) (c .before .match .keys2)) (c .text-refusal .result) (c .text-refusal .ensures)
 
 build-nodes-requires : tie.Need-build-nodes-requires
 build-nodes-requires c κs =
@@ -202,7 +202,7 @@ construct-spec =
     cast-read-2
     read-requires
     enum-known-reading
-    rule-refusal-requires
+    text-refusal-requires
     same-length-3
     same-length-4
     returns-4

@@ -106,7 +106,7 @@ loop-again c =
       k .1 .0 ∙ head x .loop .inv .2,
       k .0 ∙ head x .loop .inv .3,
       kept x,
-      λ φ tab e f. next-state φ _ _ _ _ _ (explored x φ tab e f) (c .if1 .left),
+      λ φ tab e f. next-state φ _ _ _ (list-of x) (transitions-of x) (explored x φ tab e f) (c .if1 .left),
     )
 
 same-length-3 : tie.Need-same-length-3 Inv-loop μ-loop
@@ -122,7 +122,7 @@ returns-2 c =
     let all : at .loop .s ≡ at .loop .n = omega arith in
     let steps : at .loop .s * z .args .letters ≡ at .loop .n * z .args .letters = ap (λ (k : ℕ). k * z .args .letters) all in
     let w = mul-le-mul-right (z .args .letters) (at .loop .inv .1) in (
-      λ φ tab e f. turn-done φ _ _ _ _ _ (at .loop .inv .5 φ tab e f) (omega (arith, list-length at, z .pre .5)) (at .loop .inv .1) steps,
+      λ φ tab e f. turn-done φ _ _ _ (at .loop .list) (at .loop .transitions) (at .loop .inv .5 φ tab e f) (at .loop .inv .1) steps,
       (omega arith, λ u l. at .loop .inv .4 u (omega arith), λ q u l. at .loop .inv .4 u (omega arith)),
     )
 

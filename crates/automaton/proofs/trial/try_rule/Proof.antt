@@ -89,8 +89,8 @@ read-requires c κs = search needs
 enum-known-reading : tie.Need-enum-known-reading
 enum-known-reading c = search needs
 
-rule-refusal-requires : tie.Need-rule-refusal-requires
-rule-refusal-requires c κs = search needs
+text-refusal-requires : tie.Need-text-refusal-requires
+text-refusal-requires c κs = search needs
 
 returns-3 : tie.Need-returns-3
 returns-3 c =
@@ -98,7 +98,7 @@ returns-3 c =
     let z = e .before .before .before .before .before .before .args in
     let r = c .before .before .read in
     by-reading (z .i) (z .o) (now (z .text)) (now (z .letters)) (fits e) (short e) (r .result) (r .ensures .0)
-    (not-good (r .result) (c .before .match .keys2)) (c .rule-refusal .result) (c .rule-refusal .ensures)
+    (not-good (r .result) (c .before .match .keys2)) (c .text-refusal .result) (c .text-refusal .ensures)
 
 add-power : tie.Need-add-power
 add-power c =
@@ -170,7 +170,7 @@ try-rule-spec =
     cast-read-2
     read-requires
     enum-known-reading
-    rule-refusal-requires
+    text-refusal-requires
     returns-3
     add-power
     power-requires

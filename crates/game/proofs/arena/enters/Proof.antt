@@ -4,7 +4,7 @@ use mathlib.Core.Path.{subst, sym, _∙_}
 use Prim.Native.Nat.{ℕ, _<_}
 use native.Mathlib.Omega.{arith}
 use borrow.Author.Needs.{needs}
-use Rattle.game.specs.Arena.{next}
+use Rattle.plays.specs.Arena.{next}
 use Rattle.game.proofs.IndexLaws.{At, at-facts}
 use Rattle.game.proofs.arena.enters.Statement.{statement}
 use Rattle.game.proofs.arena.enters.Tie as tie

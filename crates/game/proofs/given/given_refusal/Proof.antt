@@ -6,8 +6,8 @@ use mathlib.Core.Bool.{true, false}
 use denote.Ref.{now}
 use Rattle.automaton.specs.Alphabet.{badAlphabet}
 use Rattle.game.specs.declared.arena.Game.{Game}
-use Rattle.game.specs.Arena.{Arena, arena}
-use Rattle.game.specs.inner.Rank.{arenaOf}
+use Rattle.plays.specs.Arena.{Arena, arena}
+use Rattle.game.specs.inner.Game.{arenaOf}
 use Rattle.game.specs.inner.Checks.{InRange}
 use Rattle.game.specs.Given.{badCount, laterRefusal}
 use Rattle.game.proofs.CheckLaws.{in-range}

@@ -7,8 +7,8 @@ use mathlib.Core.Bool.{false}
 use native.Mathlib.Nat.{mul-le-mul}
 use lib.Seq.{length-take-le}
 use denote.Ref.{now}
-use Rattle.game.specs.Arena.{Arena}
-use Rattle.game.specs.inner.Rank.{arenaOf}
+use Rattle.plays.specs.Arena.{Arena}
+use Rattle.game.specs.inner.Game.{arenaOf}
 use Rattle.game.specs.Given.{shortRead, shortTables, moveCount}
 use Rattle.game.proofs.CheckLaws.{transitions-long}
 use Rattle.game.proofs.GivenLaws.{read-refused, tables-refused, state-refused, move-refused, mask-refused, none-refused}

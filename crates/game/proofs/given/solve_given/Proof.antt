@@ -12,8 +12,8 @@ use Rattle.reader.specs.declared.refusal.Refusal.the-variants.{Nothing}
 use Rattle.game.specs.declared.arena.Game.{Game}
 use Rattle.game.specs.declared.answer.Answer.{Answer}
 use Rattle.game.specs.declared.answer.Answer.the-variants.{Refused}
-use Rattle.game.specs.Arena.{Arena, arena, isFair}
-use Rattle.game.specs.inner.Rank.{arenaOf, Valid}
+use Rattle.plays.specs.Arena.{Arena, arena, isFair}
+use Rattle.game.specs.inner.Game.{arenaOf, Valid}
 use Rattle.game.specs.Tables.{Tables, Verdict}
 use Rattle.game.specs.Answer.{verdictOf}
 use Rattle.game.specs.Given.{givenRefusal, Solved}

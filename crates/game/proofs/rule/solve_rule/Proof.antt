@@ -14,8 +14,8 @@ use Rattle.automaton.specs.declared.construct.Construction.the-variants.{Built}
 use Rattle.automaton.specs.Construction.{Constructed}
 use Rattle.game.specs.declared.arena.Game.{Game}
 use Rattle.game.specs.Answer.{verdictOf}
-use Rattle.game.specs.Arena.{Arena, arena, isFair}
-use Rattle.game.specs.inner.Rank.{arenaOf, Valid}
+use Rattle.plays.specs.Arena.{Arena, arena, isFair}
+use Rattle.game.specs.inner.Game.{arenaOf, Valid}
 use Rattle.game.specs.Tables.{Tables, Verdict}
 use Rattle.game.specs.Rule.{Buffers, buffers, RuleSolved}
 use Rattle.game.specs.inner.RuleChecks.{RuleChecked}

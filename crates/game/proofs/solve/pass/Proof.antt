@@ -9,8 +9,8 @@ use native.Mathlib.Omega.{arith}
 use borrow.Author.Needs.{needs}
 use lib.ListN.{length, length-set}
 use denote.Ref.{now}
-use Rattle.game.specs.Arena.{Arena}
-use Rattle.game.specs.inner.Rank.{arenaOf}
+use Rattle.plays.specs.Arena.{Arena}
+use Rattle.game.specs.inner.Game.{arenaOf}
 use Rattle.game.specs.inner.Solver.{Passed}
 use Rattle.game.proofs.PassLaws.{pass-starts, pass-stays, pass-gains, pass-over}
 use Rattle.game.proofs.solve.pass.Statement.{statement}

@@ -7,8 +7,8 @@ use native.Mathlib.Omega.{arith}
 use borrow.Author.Needs.{needs}
 use lib.ListN.{length, replicate}
 use denote.Ref.{now}
-use Rattle.game.specs.Arena.{Arena}
-use Rattle.game.specs.inner.Rank.{arenaOf}
+use Rattle.plays.specs.Arena.{Arena}
+use Rattle.game.specs.inner.Game.{arenaOf}
 use Rattle.game.specs.inner.Solver.{Attraction}
 use Rattle.game.proofs.CountLaws.{rankedCount, count-bound, count-more}
 use Rattle.game.proofs.LimitLaws.{zeros}

@@ -5,8 +5,8 @@ use mathlib.Core.Bool.{Bool, not}
 use Prim.Native.Nat.{ℕ}
 use borrow.Author.Needs.{needs}
 use denote.Ref.{now}
-use Rattle.game.specs.Arena.{Arena, holds, next}
-use Rattle.game.specs.inner.Rank.{arenaOf}
+use Rattle.plays.specs.Arena.{Arena, holds, next}
+use Rattle.game.specs.inner.Game.{arenaOf}
 use Rattle.game.specs.inner.Solver.{rankedBelow, servingAt}
 use Rattle.game.proofs.ServingLaws.{at-goal, at-lost, at-won, at-else}
 use Rattle.game.proofs.solve.serves.Statement.{statement}

@@ -5,8 +5,8 @@ use borrow.Author.Needs.{needs}
 use mathlib.Core.Path.{refl}
 use lib.ListN.{getD}
 use denote.Ref.{now}
-use Rattle.game.specs.Arena.{Arena}
-use Rattle.game.specs.inner.Rank.{arenaOf}
+use Rattle.plays.specs.Arena.{Arena}
+use Rattle.game.specs.inner.Game.{arenaOf}
 use Rattle.reader.proofs.BoolLaws.{positive}
 use Rattle.game.proofs.TableLaws.{no-input}
 use Rattle.game.proofs.tables.environment_byte.Statement.{statement}

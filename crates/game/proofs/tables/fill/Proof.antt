@@ -2,7 +2,7 @@
 -- Assumes nothing.
 use borrow.Author.Needs.{needs}
 use denote.Ref.{now}
-use Rattle.game.specs.inner.Rank.{arenaOf}
+use Rattle.game.specs.inner.Game.{arenaOf}
 use Rattle.game.proofs.StrategyLaws.{filled-tables}
 use Rattle.game.proofs.tables.fill.Statement.{statement}
 use Rattle.game.proofs.tables.fill.Tie as tie

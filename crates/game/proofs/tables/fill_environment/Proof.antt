@@ -8,7 +8,7 @@ use Prim.Native.Nat.{ℕ, _-_, _<_, _≤_}
 use borrow.Author.Count.{below-none}
 use lib.ListN.{length, getD, length-set}
 use denote.Ref.{now}
-use Rattle.game.specs.inner.Rank.{arenaOf}
+use Rattle.game.specs.inner.Game.{arenaOf}
 use Rattle.game.specs.inner.Bytes.{EnvironmentByte}
 use Rattle.game.proofs.TableLaws.{fill-below, fill-rest}
 use Rattle.game.proofs.tables.fill_environment.Statement.{statement}

@@ -9,9 +9,10 @@ use Prim.Native.Nat.{ℕ, _-_, _<_, _≤_}
 use borrow.Author.Count.{below-none, below-more}
 use lib.ListN.{getD}
 use denote.Ref.{now}
-use Rattle.game.specs.Arena.{Arena, holds}
-use Rattle.game.specs.inner.Rank.{arenaOf}
-use Rattle.game.specs.inner.Bytes.{limitOf, AllowedInput}
+use Rattle.plays.specs.Arena.{Arena, holds}
+use Rattle.game.specs.inner.Game.{arenaOf}
+use Rattle.plays.specs.inner.Rank.{AllowedInput}
+use Rattle.game.specs.inner.Bytes.{limitOf}
 use Rattle.game.proofs.TableLaws.{allowed-every, every-allowed, input-is-byte}
 use Rattle.game.proofs.tables.first_input.Statement.{statement}
 use Rattle.game.proofs.tables.first_input.Tie as tie

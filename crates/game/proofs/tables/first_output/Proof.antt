@@ -6,8 +6,8 @@ use native.Mathlib.Omega.{arith}
 use Prim.Native.Nat.{ℕ, _-_, _<_, _≤_}
 use borrow.Author.Count.{below-none, below-more}
 use denote.Ref.{now}
-use Rattle.game.specs.Arena.{Arena}
-use Rattle.game.specs.inner.Rank.{arenaOf}
+use Rattle.plays.specs.Arena.{Arena}
+use Rattle.game.specs.inner.Game.{arenaOf}
 use Rattle.game.specs.inner.Bytes.{GoodOutput}
 use mathlib.Core.Logic.{_⊎_}
 use Rattle.game.proofs.TableLaws.{goal-in, below-in, bad-output}

@@ -5,8 +5,9 @@ use native.Mathlib.Omega.{arith}
 use Prim.Native.Nat.{ℕ, _-_, _<_, _≤_}
 use borrow.Author.Count.{below-none, below-more}
 use denote.Ref.{now}
-use Rattle.game.specs.Arena.{Arena, next}
-use Rattle.game.specs.inner.Rank.{arenaOf, Safe}
+use Rattle.plays.specs.Arena.{Arena, next}
+use Rattle.plays.specs.inner.Rank.{Safe}
+use Rattle.game.specs.inner.Game.{arenaOf}
 use Rattle.game.specs.inner.Bytes.{Below}
 use mathlib.Core.Bool.{true, false, false≢true, true≢false}
 use borrow.Author.Tests.{not-true, not-false}

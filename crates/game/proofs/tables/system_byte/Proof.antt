@@ -4,8 +4,8 @@ use borrow.Author.Needs.{needs}
 use Prim.Native.Nat.{_<_}
 use lib.ListN.{getD}
 use denote.Ref.{now}
-use Rattle.game.specs.Arena.{Arena, holds}
-use Rattle.game.specs.inner.Rank.{arenaOf}
+use Rattle.plays.specs.Arena.{Arena, holds}
+use Rattle.game.specs.inner.Game.{arenaOf}
 use Rattle.reader.proofs.BoolLaws.{positive}
 use Rattle.game.proofs.TableLaws.{some-output, output-is-byte, no-output}
 use Rattle.game.proofs.tables.system_byte.Statement.{statement}

@@ -6,7 +6,7 @@ use native.Mathlib.Omega.{arith}
 use lib.ListN.{length}
 use denote.Ref.{now}
 use borrow.Author.Needs.{needs}
-use Rattle.game.specs.Arena.{isFair}
+use Rattle.plays.specs.Arena.{isFair}
 use Rattle.game.specs.Rule.{buffers}
 use Rattle.listing.proofs.RequestLaws.{Digits, request-size, start-fits, ended, rule-ended}
 use Rattle.listing.proofs.PromiseLaws.{asked-parts}

@@ -9,8 +9,8 @@ use Rattle.reader.specs.declared.refusal.Refusal.the-variants.{Alphabet, GivenC
 use Rattle.game.specs.declared.arena.Game.{Game}
 use Rattle.game.specs.declared.follow.Followed.{Followed}
 use Rattle.game.specs.declared.follow.Followed.the-variants.{Refused}
-use Rattle.game.specs.Arena.{Arena, arena}
-use Rattle.game.specs.inner.Rank.{arenaOf}
+use Rattle.plays.specs.Arena.{Arena, arena}
+use Rattle.game.specs.inner.Game.{arenaOf}
 use Rattle.game.specs.inner.Checks.{InRange}
 use Rattle.game.specs.Given.{badCount}
 use Rattle.game.specs.Follower.{laterFollowed, followed, FollowedBy}

@@ -5,8 +5,8 @@ use borrow.Author.Needs.{needs}
 use mathlib.Core.Path.{sym, subst}
 use Prim.Native.Nat.{ℕ, _<_}
 use denote.Ref.{now}
-use Rattle.game.specs.Arena.{Arena, next}
-use Rattle.game.specs.inner.Rank.{arenaOf}
+use Rattle.plays.specs.Arena.{Arena, next}
+use Rattle.game.specs.inner.Game.{arenaOf}
 use Rattle.game.proofs.IndexLaws.{At, at-facts}
 use Rattle.game.proofs.CheckLaws.{transitions-long, accepting-long}
 use Rattle.game.proofs.FollowLaws.{move-leads-out, move-leads-in}

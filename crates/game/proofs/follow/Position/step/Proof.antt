@@ -9,8 +9,8 @@ use native.Mathlib.Nat.{mul-le-mul}
 use lib.ListN.{length}
 use denote.Ref.{now}
 use borrow.Author.Tests.{ltb-false}
-use Rattle.game.specs.Arena.{Arena}
-use Rattle.game.specs.inner.Rank.{arenaOf}
+use Rattle.plays.specs.Arena.{Arena}
+use Rattle.game.specs.inner.Game.{arenaOf}
 use Rattle.game.specs.Given.{shortRead}
 use Rattle.game.specs.Follower.{shortStrategy}
 use Rattle.game.proofs.IndexLaws.{row-below}

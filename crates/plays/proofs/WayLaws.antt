@@ -1,0 +1,130 @@
+-- The play that a way, with any memory, makes with a strategy that wins: it follows the strategy, up to a goal where the strategy is the system's, and it is
+-- the only one. So winning from a state says of plays without end what specs/Endless.antt states.
+-- Assumes nothing.
+use Prim.Native.Nat.{ℕ, zero, suc, _≤_, _<_}
+use mathlib.Core.Path.{_≡_, refl, sym, ap, _∙_, subst}
+use mathlib.Core.Bool.{Bool, true, false}
+use mathlib.Core.List.{List, [], _∷_}
+use mathlib.Core.Logic.{_⊎_, ⊎-elim}
+use lib.ListN.{length}
+use Rattle.plays.specs.Arena.{Arena, goal, holds}
+use Rattle.plays.specs.Play.{Step, entered, run, reaches, Along}
+use Rattle.plays.specs.Strategy.{systemByte, environmentByte, BySystem, ByEnvironment, SystemWins, EnvironmentWins}
+use Rattle.plays.specs.Way.{SystemWay, EnvironmentWay, Outputs, Inputs, bySystem, byEnvironment, ordered, meeting, systemAfter, environmentAfter, meet, Chosen}
+use Rattle.plays.specs.Endless.{first, inputs, Follows, Promised, Reaching, Kept, CanEndless, Defeated, CannotEndless}
+use Rattle.reader.proofs.BoolLaws.{on, clash, or-left}
+use Rattle.plays.proofs.PlayLaws.{reaches-later}
+use Rattle.plays.proofs.Determined.{system-later, environment-later}
+use Rattle.plays.proofs.EndlessLaws.{assumed, honoured}
+
+-- the outputs are the way's
+chosen-meet : (α : EnvironmentWay) (ω : SystemWay) (k : ℕ) → Chosen ω (first (meet α ω) k)
+unfolding first meet Chosen
+chosen-meet α ω zero = tt
+chosen-meet α ω (suc k) = (refl, chosen-meet (environmentAfter (meeting α ω) α) (systemAfter (meeting α ω) ω) k)
+
+-- the inputs of the play that a fixed order makes are the order
+input-ordered : (x : ℕ → ℕ) (ω : SystemWay) (j : ℕ) → meet (ordered x) ω j .input ≡ x j
+unfolding meet
+input-ordered x ω zero = refl
+input-ordered x ω (suc j) = input-ordered (λ i. x (suc i)) (systemAfter (meeting (ordered x) ω) ω) j
+
+-- so a promise that the order keeps is kept on the play
+promised-ordered : (fair : Bool) (G : Arena) (x : ℕ → ℕ) (ω : SystemWay) → Promised fair G x → Promised fair G (inputs (meet (ordered x) ω))
+promised-ordered true G x ω p = λ m.
+    let w = p m in
+    (w .0, w .1, subst (λ (z : ℕ). holds G z ≡ true) (sym (input-ordered x ω (w .0))) (w .2))
+promised-ordered false G x ω p = (p .0, λ j h. subst (λ (z : ℕ). holds G z ≡ true) (sym (input-ordered x ω j)) (p .1 j h))
+
+-- a step is what its numbers are
+same-step : (a : Step) (x y : ℕ) → a .input ≡ x → a .output ≡ y → a ≡ record { input = x; output = y }
+same-step a x y e f = λ i. record { input = e i; output = f i }
+
+module _ (G : Arena) where
+  -- a goal that is entered ends the search
+  at-goal : (R : ℕ → Step → Type 0) (s : ℕ) (a : Step) → R s a → goal G (entered G s a) ≡ true → Along G R s (a ∷ []) × Reaching G s (a ∷ [])
+  unfolding Along reaches
+  at-goal R s a h e = ((h, tt), rw e)
+
+  -- one step more before a play that reaches a goal
+  before-goal : (R : ℕ → Step → Type 0) (s : ℕ) (a : Step) (p : List Step) → R s a → Along G R (entered G s a) p → goal G (entered G s a) ≡ false → Reaching G (entered G s a) p
+      → Along G R s (a ∷ p) × Reaching G s (a ∷ p)
+  unfolding Along
+  before-goal R s a p h l e r = ((h, l), reaches-later G s a p e ∙ r)
+
+  module _ (fair : Bool) (σ : List ℕ) where
+    -- the step that a way of the environment makes with a strategy that wins
+    system-step : (s : ℕ) (α : EnvironmentWay) → Inputs G α → SystemWins fair G σ s → BySystem G σ s (meeting α (bySystem G σ s))
+    unfolding Along reaches run
+    system-step s α legal w = ((legal [], w .answers [] tt refl (α []) (legal [])), refl)
+
+    -- k steps of the play follow the strategy, or some of them do and reach a goal
+    system-made : (k s : ℕ) (α : EnvironmentWay) → Inputs G α → SystemWins fair G σ s
+        → Along G (BySystem G σ) s (first (meet α (bySystem G σ s)) k)
+        ⊎ ((j : ℕ) × Along G (BySystem G σ) s (first (meet α (bySystem G σ s)) j) × Reaching G s (first (meet α (bySystem G σ s)) j))
+    unfolding Along run first meet
+    system-made zero s α legal w = _⊎_.inl tt
+    system-made (suc k) s α legal w =
+        let a : Step = meeting α (bySystem G σ s) in
+        let h = system-step s α legal w in
+        on (goal G (entered G s a))
+        (λ e. let z = at-goal (BySystem G σ) s a h e in _⊎_.inr (1, z .0, z .1))
+        (λ e. ⊎-elim
+        (λ l. _⊎_.inl (h, l))
+        (λ m. let z = before-goal (BySystem G σ) s a (first (meet (environmentAfter a α) (bySystem G σ (entered G s a))) (m .0)) h (m .1) e (m .2) in
+        _⊎_.inr (suc (m .0), z .0, z .1))
+        (system-made k (entered G s a) (environmentAfter a α) (λ past. legal (a ∷ past)) (system-later fair G σ s a h e w)))
+
+    -- whatever the environment does, it is beaten where it keeps its promise
+    system-ways : (s : ℕ) → SystemWins fair G σ s → (α : EnvironmentWay) → Inputs G α → Promised fair G (inputs (meet α (bySystem G σ s)))
+        → Kept G σ s (Reaching G s) (meet α (bySystem G σ s))
+    system-ways s w α legal promised =
+        let f = meet α (bySystem G σ s) in
+        let b = assumed G fair f promised in
+        ⊎-elim (λ l. (b .0, l, w .reaching (first f (b .0)) l (b .1))) (λ m. m) (system-made (b .0) s α legal w)
+
+    pub system-endless : (s : ℕ) → SystemWins fair G σ s → CanEndless fair G σ s (Reaching G s)
+    system-endless s w =
+        record {
+          orders = λ x legal promised. system-ways s w (ordered x) (λ past. legal (length past)) (promised-ordered fair G x (bySystem G σ s) promised);
+          ways = system-ways s w;
+          plays = λ f follows promised. let b = assumed G fair f promised in (b .0, follows (b .0), w .reaching (first f (b .0)) (follows (b .0)) (b .1));
+        }
+
+  module _ (fair : Bool) (τ : List ℕ) where
+    -- the play that a way of the system makes with a strategy that wins follows the strategy
+    environment-made : (k s : ℕ) (ω : SystemWay) → Outputs G ω → EnvironmentWins fair G τ s → Along G (ByEnvironment G τ) s (first (meet (byEnvironment G τ s) ω) k)
+    unfolding Along reaches run first meet
+    environment-made zero s ω legal w = tt
+    environment-made (suc k) s ω legal w =
+        let a : Step = meeting (byEnvironment G τ s) ω in
+        let h : ByEnvironment G τ s a = ((w .answers [] tt, legal [] (environmentByte τ s)), refl) in
+        let e : goal G (entered G s a) ≡ false = or-left (goal G (entered G s a)) false (w .avoiding (a ∷ []) (h, tt)) in
+        (h, environment-made k (entered G s a) (systemAfter a ω) (λ past. legal (a ∷ past)) (environment-later fair G τ s a h e w))
+
+    -- and no other play of its length does, with the same way
+    only-made : (s : ℕ) (ω : SystemWay) (p : List Step) → Along G (ByEnvironment G τ) s p → Chosen ω p → p ≡ first (meet (byEnvironment G τ s) ω) (length p)
+    unfolding Along run first meet Chosen
+    only-made s ω [] h c = refl
+    only-made s ω (a ∷ p) h c =
+        let e : a ≡ meeting (byEnvironment G τ s) ω = same-step a (environmentByte τ s) (ω [] (environmentByte τ s)) (h .0 .1) (c .0 ∙ ap (ω []) (h .0 .1)) in
+        ap (λ (q : List Step). a ∷ q) (only-made (entered G s a) (systemAfter a ω) p (h .1) (c .1))
+        ∙ ap (λ (b : Step). b ∷ first (meet (environmentAfter b (byEnvironment G τ s)) (systemAfter b ω)) (length p)) e
+
+    defeated : (s : ℕ) → EnvironmentWins fair G τ s → (f : ℕ → Step) → Follows G (ByEnvironment G τ) s f → Defeated fair G (Reaching G s) f
+    defeated s w f follows =
+        record {
+          never = λ k r. clash (reaches G s (first f k)) r (w .avoiding (first f k) (follows k));
+          promised = honoured G fair f (λ k. w .keeping (first f k) (follows k));
+          keeping = λ k. w .keeping (first f k) (follows k);
+        }
+
+    pub environment-endless : (s : ℕ) → EnvironmentWins fair G τ s → CannotEndless fair G τ s (Reaching G s)
+    environment-endless s w =
+        record {
+          plays = defeated s w;
+          ways = λ ω legal. defeated s w (meet (byEnvironment G τ s) ω) (λ k. environment-made k s ω legal w);
+          made = λ ω legal k. environment-made k s ω legal w;
+          chosen = λ ω k. chosen-meet (byEnvironment G τ s) ω k;
+          only = only-made s;
+        }

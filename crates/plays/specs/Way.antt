@@ -1,0 +1,56 @@
+-- Ways of playing with any memory: a choice for all the steps so far, the earliest first. The system's way has the step's input in hand, the environment's
+-- has not (specification, "Letters": the outside chooses, then the station, having seen it). A strategy, or table, is a way that looks at the state alone.
+-- Assumes nothing.
+use Prim.Native.Nat.{ℕ, zero, suc, _<_}
+use mathlib.Core.Path.{_≡_}
+use mathlib.Core.List.{List, [], _∷_}
+use lib.ListN.{length}
+use Rattle.plays.specs.Arena.{Arena}
+use Rattle.plays.specs.Play.{Step, run}
+use Rattle.plays.specs.Strategy.{systemByte, environmentByte}
+
+-- a way of the system: an output for the steps so far and the input
+abbrev pub SystemWay : Type 0
+SystemWay = List Step → ℕ → ℕ
+
+-- a way of the environment: an input for the steps so far
+abbrev pub EnvironmentWay : Type 0
+EnvironmentWay = List Step → ℕ
+
+-- all its choices are outputs, all its choices are inputs
+abbrev pub Outputs : Arena → SystemWay → Type 0
+Outputs G ω = (past : List Step) (x : ℕ) → ω past x < G .outputs
+
+abbrev pub Inputs : Arena → EnvironmentWay → Type 0
+Inputs G α = (past : List Step) → α past < G .inputs
+
+-- the ways of two strategies, for plays from state s
+abbrev pub bySystem : Arena → List ℕ → ℕ → SystemWay
+bySystem G σ s past x = systemByte G σ (run G s past) x
+
+abbrev pub byEnvironment : Arena → List ℕ → ℕ → EnvironmentWay
+byEnvironment G τ s past = environmentByte τ (run G s past)
+
+-- an order of inputs that is fixed beforehand, an input for each step, is a way of the environment too
+abbrev pub ordered : (ℕ → ℕ) → EnvironmentWay
+ordered x past = x (length past)
+
+-- the first step of two ways, and the ways after a first step
+abbrev pub meeting : EnvironmentWay → SystemWay → Step
+meeting α ω = record { input = α []; output = ω [] (α []) }
+
+abbrev pub systemAfter : Step → SystemWay → SystemWay
+systemAfter a ω past x = ω (a ∷ past) x
+
+abbrev pub environmentAfter : Step → EnvironmentWay → EnvironmentWay
+environmentAfter a α past = α (a ∷ past)
+
+-- the play without end that two ways make: its step j
+unfoldable pub meet : EnvironmentWay → SystemWay → ℕ → Step
+meet α ω zero = meeting α ω
+meet α ω (suc j) = meet (environmentAfter (meeting α ω) α) (systemAfter (meeting α ω) ω) j
+
+-- the outputs of a play are those of a way
+unfoldable pub Chosen : SystemWay → List Step → Type 0
+Chosen ω [] = Unit {0}
+Chosen ω (a ∷ p) = (a .output ≡ ω [] (a .input)) × Chosen (systemAfter a ω) p

@@ -1,0 +1,50 @@
+-- Ranks: the certificates by which a game is solved, a number for each state and player, each a statement about one step.
+-- A player is true for the system and false for the environment.
+-- Assumes nothing.
+use Prim.Native.Nat.{ℕ, _<_, _≤_}
+use mathlib.Core.Path.{_≡_}
+use mathlib.Core.Bool.{Bool, true, false, not}
+use mathlib.Core.List.{List}
+use mathlib.Core.Logic.{_⊎_}
+use lib.ListN.{getD}
+use Rattle.plays.specs.Arena.{Arena, next, goal, holds, lacks}
+
+-- the inputs at which the player's rank has to fall: with the condition for the system, without it for the environment
+abbrev pub judged : Arena → Bool → ℕ → Bool
+judged G true x = holds G x
+judged G false x = lacks G x
+
+-- what a player asks of the state that a step enters: the system is done at a goal, the environment must avoid it
+abbrev pub Safe : Arena → Bool → ℕ → Type 0 → Type 0
+Safe G true t D = (goal G t ≡ true) ⊎ D
+Safe G false t D = (goal G t ≡ false) × D
+
+-- the player can see to it that the next step is to its liking: the system has an output for every input, the environment an input for every output
+abbrev pub Forces : Arena → Bool → ℕ → (ℕ → ℕ → Type 0) → Type 0
+Forces G true s R = (x : ℕ) → x < G .inputs → (y : ℕ) × (y < G .outputs) × Safe G true (next G s x y) (R x (next G s x y))
+Forces G false s R = (x : ℕ) × (x < G .inputs) × ((y : ℕ) → y < G .outputs → Safe G false (next G s x y) (R x (next G s x y)))
+
+-- after input x on s, the entered state t has a rank, which is lower at a judged input, and which is nowhere higher where the ranks are steady
+abbrev pub Falls : Arena → Bool → Bool → List ℕ → ℕ → ℕ → ℕ → Type 0
+Falls G player steady r s x t = (0 < getD r t 0) × (judged G player x ≡ true → getD r t 0 < getD r s 0) × (steady ≡ true → getD r t 0 ≤ getD r s 0)
+
+-- the system's ranks allow output y for input x on state s
+abbrev pub AllowedOutput : Bool → Arena → List ℕ → ℕ → ℕ → ℕ → Type 0
+AllowedOutput fair G r s x y = (y < G .outputs) × Safe G true (next G s x y) (Falls G true fair r s x (next G s x y))
+
+-- the environment's ranks allow input x on state s
+abbrev pub AllowedInput : Bool → Arena → List ℕ → ℕ → ℕ → Type 0
+AllowedInput fair G r s x =
+    (x < G .inputs) × ((y : ℕ) → y < G .outputs → Safe G false (next G s x y) (Falls G false (not fair) r s x (next G s x y)))
+
+-- a player's ranks, 0 for none, are a certificate
+pub record Ranked (G : Arena) (player steady : Bool) (r : List ℕ) : Type 0 where
+  pub within : (t : ℕ) → 0 < getD r t 0 → t < G .states
+  pub bound : (t : ℕ) → getD r t 0 ≤ G .states
+  pub forced : (s : ℕ) → 0 < getD r s 0 → Forces G player s (Falls G player steady r s)
+
+-- the ranks of both players: the system's are steady when fair and the environment's when stable, and each state has a rank for exactly one of them
+pub record Ranking (fair : Bool) (G : Arena) (system environment : List ℕ) : Type 0 where
+  pub of-system : Ranked G true fair system
+  pub of-environment : Ranked G false (not fair) environment
+  pub each : (s : ℕ) → s < G .states → ((0 < getD system s 0) × (getD environment s 0 ≡ 0)) ⊎ ((getD system s 0 ≡ 0) × (0 < getD environment s 0))

@@ -56,7 +56,8 @@ claims lower-pre lower-post pre post = (
 pub +read-and+read-implies+read-or+read-prefix+read-until-spec : {M : Type 1} → statement M
 +read-and+read-implies+read-or+read-prefix+read-until-spec =
     close (μ 2) (μ 4) (μ 3) (μ 0) (μ 1)
-    (λ t. read-and-lts.spec (claims (below 1 t read-until.Pre) read-until.Post (below 2 t read-and.Pre) read-and.Post) (at 2 t read-and.Pre) read-and.Post
+    (λ t. read-and-lts.spec (claims (below 1 t read-until.Pre) read-until.Post (below 2 t read-and.Pre) read-and.Post)
+    (at 2 t read-and.Pre) read-and.Post
     -- read-and-read-until-requires
     (λ c κs. lower-ready 1 (c .before .before .before .pre))
     -- read-and-level-at-requires
@@ -94,7 +95,8 @@ pub +read-and+read-implies+read-or+read-prefix+read-until-spec : {M : Type 1} �
     (λ c. c .before .before .before .before .read-until .kept .1 .1 .1 .0)
     -- read-and-returns-2
     (λ c. alone 1 (c .before .before .before .before .read-until .ensures) (c .before .level-at .ensures) (c .if1 .left)))
-    (λ t. read-implies-lts.spec (claims (below 3 t read-or.Pre) read-or.Post (below 4 t read-implies.Pre) read-implies.Post) (at 4 t read-implies.Pre) read-implies.Post
+    (λ t. read-implies-lts.spec (claims (below 3 t read-or.Pre) read-or.Post (below 4 t read-implies.Pre) read-implies.Post)
+    (at 4 t read-implies.Pre) read-implies.Post
     -- read-implies-read-or-requires
     (λ c κs. lower-ready 3 (c .before .before .before .pre))
     -- read-implies-level-at-requires
@@ -132,7 +134,8 @@ pub +read-and+read-implies+read-or+read-prefix+read-until-spec : {M : Type 1} �
     (λ c. c .before .before .before .before .read-or .kept .1 .1 .1 .0)
     -- read-implies-returns-2
     (λ c. alone 3 (c .before .before .before .before .read-or .ensures) (c .before .level-at .ensures) (c .if1 .left)))
-    (λ t. read-or-lts.spec (claims (below 2 t read-and.Pre) read-and.Post (below 3 t read-or.Pre) read-or.Post) (at 3 t read-or.Pre) read-or.Post
+    (λ t. read-or-lts.spec (claims (below 2 t read-and.Pre) read-and.Post (below 3 t read-or.Pre) read-or.Post)
+    (at 3 t read-or.Pre) read-or.Post
     -- read-or-read-and-requires
     (λ c κs. lower-ready 2 (c .before .before .before .pre))
     -- read-or-level-at-requires
@@ -250,7 +253,8 @@ pub +read-and+read-implies+read-or+read-prefix+read-until-spec : {M : Type 1} �
     let o = e .before .before in
     single _ (o .before .before .over .ensures) (sym (o .before .is-open .ensures) ∙ o .if1 .left)
     (sym (e .before .is-prefix .ensures) ∙ e .if2 .left) (put .0) (put .1)))
-    (λ t. read-until-lts.spec (claims (below 0 t read-prefix.Pre) read-prefix.Post (below 1 t read-until.Pre) read-until.Post) (at 1 t read-until.Pre) read-until.Post
+    (λ t. read-until-lts.spec (claims (below 0 t read-prefix.Pre) read-prefix.Post (below 1 t read-until.Pre) read-until.Post)
+    (at 1 t read-until.Pre) read-until.Post
     -- read-until-read-prefix-requires
     (λ c κs. lower-ready 0 (c .before .before .before .pre))
     -- read-until-level-at-requires

@@ -10,6 +10,7 @@ use Rattle.reader.specs.Marks.{ruleKind, conditionKind, kindIn}
 use Rattle.automaton.specs.Limits.{stateLimit}
 use Rattle.automaton.specs.Alphabet.{badAlphabet}
 use Rattle.automaton.specs.Condition.{maskOf}
+use Rattle.machine.specs.Discovery as machine
 use Rattle.automaton.specs.Discovery.{stateCount}
 use Rattle.plays.specs.Arena.{isFair}
 use Rattle.readings.specs.Lists.{transitionsOf, flagsOf}
@@ -45,7 +46,7 @@ sizesPass φ κ = leb (size φ) nodeLimit && (leb (operators φ) operatorLimit &
 
 -- the rule has n states, and n is within the limit
 unfoldable pub countPasses : Row → Formula → Bool
-unfolding stateCount
+unfolding machine.stateCount
 countPasses r φ = eqb (r .count) (stateCount φ (lettersOf r)) && leb (r .count) stateLimit
 
 -- the winner's ranks are a certificate on the arena whose lists and mask are computed from the definitions

@@ -19,7 +19,7 @@ use Rattle.automaton.specs.Bits.{bit, ofBits, gather}
 use Rattle.automaton.specs.Condition.{maskOf}
 use Rattle.automaton.specs.Valuation.{value, coords, ends, present, endVector, vectors}
 use Rattle.automaton.specs.State.{start, after, accepts}
-use Rattle.automaton.specs.Discovery.{position, extend, target, look, discovered, states, stateCount}
+use Rattle.machine.specs.Discovery.{position, extend, target, look, discovered, states, stateCount}
 use Rattle.game.specs.declared.answer.Answer.{Answer}
 use Rattle.game.specs.declared.answer.Answer.the-variants.{Cannot}
 use Rattle.plays.specs.declared.mode.Mode.the-variants.{Fair}
@@ -37,7 +37,7 @@ use Rattle.readings.specs.Row.{Row, rowOf, arenaFor}
 use Rattle.readings.specs.Example.{exampleInput, exampleListing}
 use Rattle.readings.proofs.Tree.{single, prefixed, flat, formulaOf, fits, sameBytes, readsBy}
 use Rattle.readings.proofs.Test.{below, stepOf, outputOf, inputOf, bytesOf, stateOf, winsOf}
-use Rattle.readings.proofs.ListLaws.{same-transition, same-flag}
+use Rattle.machine.proofs.OneAutomaton.{one-move, one-flag}
 use Rattle.readings.proofs.Certificate.{Certificate, certificate, alphabetPasses, textsPass, sizesPass, countPasses, winnerPasses, passesWith, passes}
 use Rattle.readings.proofs.CertificateLaws.{held, ranked-won, reading, reading-formulas}
 use Rattle.readings.proofs.Answers.{Held, answered}
@@ -82,7 +82,7 @@ module _ (old new : Buffers) (h : Held example φ κ old new false) where
   G = arenaFor example (new .transitions) (new .accepting) (h .mask)
 
   flag : (s : ℕ) → s < 3 → getD (new .accepting) s 0 ≡ getD (0 ∷ 0 ∷ 1 ∷ []) s 0
-  flag s l = same-flag (h .automaton) (held example never passed) s l ∙ ap (λ (f : List ℕ). getD f s 0) flags-are
+  flag s l = one-flag (h .automaton) (held example never passed) s l ∙ ap (λ (f : List ℕ). getD f s 0) flags-are
 
   -- where input x leads from s
   abbrev led : ℕ → ℕ → ℕ
@@ -93,7 +93,7 @@ module _ (old new : Buffers) (h : Held example φ κ old new false) where
   leads s x hs hx =
       let e : x + 2 * 0 ≡ x = omega arith in
       ap (λ (k : ℕ). getD (new .transitions) (s * 2 + k) 0) e
-      ∙ same-transition (h .automaton) (held example never passed) s x hs hx
+      ∙ one-move (h .automaton) (held example never passed) s x hs hx
       ∙ ap (λ (t : List ℕ). getD t (s * 2 + x) 0) transitions-are
 
   into-goal : (s x : ℕ) → s < 3 → x < 2 → led s x ≡ 2 → goal G (next G s x 0) ≡ true

@@ -10,7 +10,7 @@ use Rattle.automaton.specs.Bits.{bit, ofBits, gather}
 use Rattle.automaton.specs.Condition.{maskOf}
 use Rattle.automaton.specs.Valuation.{value, coords, ends, present, endVector, vectors}
 use Rattle.automaton.specs.State.{start, after, accepts}
-use Rattle.automaton.specs.Discovery.{position, extend, target, look, discovered, states, stateCount}
+use Rattle.machine.specs.Discovery.{position, extend, target, look, discovered, states, stateCount}
 use Rattle.plays.specs.Arena.{next, goal, holds}
 use Rattle.readings.specs.Lists.{listOf, transitionsOf, flagsOf}
 use Rattle.readings.specs.Row.{RowHolds, All}

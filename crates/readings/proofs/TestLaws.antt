@@ -26,7 +26,7 @@ use Rattle.plays.proofs.RankLaws.{system-wins, environment-wins}
 use Rattle.game.proofs.RuleLaws.{can-keep, cannot-keep}
 use Rattle.readings.specs.Row.{VerdictOn}
 use Rattle.readings.proofs.Test.{below, fallsOf, stepOf, outputOf, inputOf, bytesOf, stateOf, winsOf}
-use Rattle.readings.proofs.ListLaws.{same-transition, same-flag}
+use Rattle.machine.proofs.OneAutomaton.{one-move, one-flag}
 
 -- ---- each test says what it is named for
 
@@ -82,12 +82,12 @@ module _ (i o : ℕ) (φ : Formula) (n mask₀ mask : ℕ) (t₀ f₀ t f : List
   next-same s x y hs hx hy =
       let a : ℕ = letterOf (2 ^ i) x y in
       let h : a < 2 ^ i * 2 ^ o = letter-below (2 ^ i) (2 ^ o) x y hx hy in
-      (on-product t₀ f₀ A₀ .moved s a hs h .0, same-transition (on-product t f A) (on-product t₀ f₀ A₀) s a hs h)
+      (on-product t₀ f₀ A₀ .moved s a hs h .0, one-move (on-product t f A) (on-product t₀ f₀ A₀) s a hs h)
 
   step-equal : (player steady : Bool) (r : List ℕ) (s x u : ℕ) → x < 2 ^ i → u < n → stepOf G player steady r s x u ≡ stepOf G₀ player steady r s x u
   unfolding stepOf goal holds
-  step-equal true steady r s x u hx hu = ap₂ (λ (k : ℕ) (b : Bool). not (eqb k 0) || fallsOf b steady (getD r u 0) (getD r s 0)) (same-flag A A₀ u hu) (judge x hx)
-  step-equal false steady r s x u hx hu = ap₂ (λ (k : ℕ) (b : Bool). not (not (eqb k 0)) && fallsOf (not b) steady (getD r u 0) (getD r s 0)) (same-flag A A₀ u hu) (judge x hx)
+  step-equal true steady r s x u hx hu = ap₂ (λ (k : ℕ) (b : Bool). not (eqb k 0) || fallsOf b steady (getD r u 0) (getD r s 0)) (one-flag A A₀ u hu) (judge x hx)
+  step-equal false steady r s x u hx hu = ap₂ (λ (k : ℕ) (b : Bool). not (not (eqb k 0)) && fallsOf (not b) steady (getD r u 0) (getD r s 0)) (one-flag A A₀ u hu) (judge x hx)
 
   step-same : (player steady : Bool) (r : List ℕ) (s x y : ℕ) → s < n → x < 2 ^ i → y < 2 ^ o → stepOf G₀ player steady r s x (next G₀ s x y) ≡ true → Safe G player (next G s x y) (Falls G player steady r s x (next G s x y))
   step-same player steady r s x y hs hx hy e =

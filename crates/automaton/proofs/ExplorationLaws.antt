@@ -1,7 +1,7 @@
 -- The exploration's steps for states that are words in an array (specs/inner/Exploration.antt): the laws of any machine's, at the formula's. The steps of one
 -- state s are numbered s * L + a. Assumes nothing.
 use Prim.Native.Nat.{ℕ, suc, _+_, _*_, _≤_, _<_}
-use mathlib.Core.Path.{_≡_, sym, _∙_}
+use mathlib.Core.Path.{_≡_, refl, _∙_}
 use mathlib.Core.List.{List}
 use native.Mathlib.Nat.{mul-le-mul-right}
 use native.Mathlib.Omega.{arith}
@@ -35,7 +35,8 @@ pub record Turn (L n s a : ℕ) (list transitions : List ℕ) : Type 0 where
 pub letter-room : (L n s a : ℕ) (list transitions : List ℕ) → Turn L n s a list transitions → s * L + a < length transitions
 letter-room L n s a list transitions at = omega (arith, digits-lt (at .state) (at .letter), mul-le-mul-right L (at .few), at .room)
 
-module _ (φ : Formula) (L n s a : ℕ) (list transitions : List ℕ) (at : Turn L n s a list transitions) (done : Progress φ L n (s * L + a) list transitions) where
+module _ (φ : Formula) (L n s a : ℕ) (list transitions : List ℕ) (at : Turn L n s a list transitions)
+    (done : Progress φ L n (s * L + a) list transitions) where
   -- the letter's transition is stored, and those before it stay
   put : (p : ℕ) → getD (set transitions (s * L + a) p) (s * L + a) 0 ≡ p
   put p = getD-set-same transitions (s * L + a) p 0 (letter-room L n s a list transitions at)
@@ -48,22 +49,24 @@ module _ (φ : Formula) (L n s a : ℕ) (list transitions : List ℕ) (at : Turn
       → Progress φ L n (s * L + (a + 1)) list (set transitions (s * L + a) (getD transitions (s * L + b) 0))
   letter-twin b h same =
       let p = getD transitions (s * L + b) 0 in
-      machine.letter-twin (machineOf φ) L s a n (wordAt list) transitions (set transitions (s * L + a) p) (at .state) (at .letter) done (kept p) b h same (put p)
+      machine.letter-twin (machineOf φ) L s a n (wordAt list) transitions (set transitions (s * L + a) p) (at .state) (at .letter) done (kept p)
+      b h same (put p)
 
   module _ (x p : ℕ) (next : x ≡ after φ (getD list s 0) a) (place : Place (wordAt list) n x p) where
     pub letter-old : (p ≡ n → ⊥) → Progress φ L n (s * L + (a + 1)) list (set transitions (s * L + a) p)
     letter-old old =
-        machine.letter-old (machineOf φ) L s a n (wordAt list) transitions (set transitions (s * L + a) p) (at .state) (at .letter) done (kept p) x p next place old (put p)
+        machine.letter-old (machineOf φ) L s a n (wordAt list) transitions (set transitions (s * L + a) p) (at .state) (at .letter) done (kept p)
+        x p next place old (put p)
 
     pub letter-new : p ≡ n → n < length list → Progress φ L (n + 1) (s * L + (a + 1)) (set list n x) (set transitions (s * L + a) p)
     letter-new new l =
-        machine.letter-new (machineOf φ) L s a n (wordAt list) transitions (set transitions (s * L + a) p) (at .state) (at .letter) done (kept p) x p next place new
-        (wordAt (set list n x)) (λ i h. getD-set-other list n i x 0 (λ q. let z : ⊥ = omega arith in z)) (getD-set-same list n x 0 l) (put p)
+        machine.letter-new (machineOf φ) L s a n (wordAt list) transitions (set transitions (s * L + a) p) (at .state) (at .letter) done (kept p)
+        x p next place new (wordAt (set list n x)) (λ i h. getD-set-other list n i x 0 (λ q. let z : ⊥ = omega arith in z)) (getD-set-same list n x 0 l) (put p)
 
     pub letter-over : p ≡ n → n ≡ stateLimit → StateExplored φ L s (suc stateLimit) list transitions
     letter-over new full =
-        machine.letter-over (machineOf φ) L s a n (wordAt list) transitions (set transitions (s * L + a) p) (at .state) (at .letter) done (kept p) x p next place new
-        stateLimit full
+        machine.letter-over (machineOf φ) L s a n (wordAt list) transitions transitions (at .state) (at .letter) done (λ u h. refl)
+        x p next place new stateLimit full
 
 -- after the last letter, and on to the next state
 pub letters-done : (φ : Formula) (L n s a : ℕ) (list transitions : List ℕ) → Progress φ L n (s * L + a) list transitions → a ≡ L → n ≤ stateLimit

@@ -8,7 +8,7 @@ pub mod PairLaws
 pub mod SuccessorLaws
 pub mod ExplorationLaws
 pub mod TwinLaws
-pub mod AutomatonLaws
+pub mod BuildLaws
 pub mod FirstOverLaws
 pub mod ReadLaws
 pub mod ConstructionLaws

@@ -54,8 +54,11 @@ run-valuation φ (a ∷ w) s = run-valuation φ w (after φ s a) ∙ bit-ofBits 
 pub run-accepts : (φ : Formula) (a : Letter) (w : Trace) → T (accepts φ (run (after φ) (start φ) (a ∷ w))) ↔ Satisfies φ (a ∷ w)
 unfolding start
 run-accepts φ a w =
-    by-test (run-valuation φ (a ∷ w) (start φ) ∙ bit-ofBits (λ u. bit u 0) (vectors φ) (valuation φ (a ∷ w)) (valuation-lt φ (a ∷ w))) (valuation-decides φ (a ∷ w))
+    by-test
+    (run-valuation φ (a ∷ w) (start φ) ∙ bit-ofBits (λ u. bit u 0) (vectors φ) (valuation φ (a ∷ w)) (valuation-lt φ (a ∷ w)))
+    (valuation-decides φ (a ∷ w))
 
+-- so the formula's machine recognizes the traces that satisfy the formula
 pub formula-recognizes : (φ : Formula) (L : ℕ) → Recognizes (machineOf φ) L (Satisfies φ)
 formula-recognizes φ L a w h = by-true (run-accepts φ a w)
 

@@ -15,19 +15,19 @@ use Rattle.machine.specs.Machine.{Machine}
 use Rattle.machine.specs.Automaton as machine
 use Rattle.machine.proofs.OneAutomaton.{one-transition, one-flag}
 use Rattle.reader.specs.declared.refusal.Refusal.{Refusal}
-use Rattle.reader.specs.declared.refusal.Refusal.the-variants.{Nothing, Alphabet, TextLength, Buffer, RuleText, RuleNodes, RuleOperators, ConditionText, ConditionNodes, StateCount, GivenCount, Move, State, Value}
+use Rattle.reader.specs.declared.refusal.Refusal.the-variants.{Nothing, Alphabet, TextLength, Buffer, RuleText, RuleNodes, RuleOperators}
+use Rattle.reader.specs.declared.refusal.Refusal.the-variants.{ConditionText, ConditionNodes, StateCount, GivenCount, Move, State, Value}
 use Rattle.reader.specs.Formula.{Formula}
 use Rattle.reader.proofs.BoolLaws.{on}
 use Rattle.reader.proofs.RefusalLaws.{differs}
 use Rattle.automaton.specs.Limits.{stateLimit}
-use Rattle.automaton.specs.Trace.{Satisfies}
-use Rattle.automaton.specs.State.{machineOf}
 use Rattle.automaton.specs.Automaton.{Automaton}
 use Rattle.automaton.specs.Buffer.{Cleared}
 use Rattle.automaton.specs.Construction.{Over}
 
 -- two buffers that agree on what is used, and are cleared alike behind it, are one
-one-buffer : (used share : ℕ) (old new new′ : List ℕ) → Cleared used share old new → Cleared used share old new′ → ((k : ℕ) → k < used → getD new k 0 ≡ getD new′ k 0) → new ≡ new′
+pub one-buffer : (used share : ℕ) (old new new′ : List ℕ) → Cleared used share old new → Cleared used share old new′
+    → ((k : ℕ) → k < used → getD new k 0 ≡ getD new′ k 0) → new ≡ new′
 one-buffer used share old new new′ c d same =
     ext-getD 0 new new′ (c .size ∙ sym (d .size))
     (λ k h. on (ltb k used)
@@ -37,13 +37,13 @@ one-buffer used share old new new′ c d same =
     (λ f. c .beyond k (ltb-false k share f) ∙ sym (d .beyond k (ltb-false k share f)))))
 
 -- the automaton of a machine, cleared behind it, is one
-module _ {S : Type 0} (M : Machine S) (Good : Trace → Type 0) (L limit n : ℕ) (t a t′ a′ : List ℕ)
-    (x : machine.Automaton M Good L limit n t a) (y : machine.Automaton M Good L limit n t′ a′) where
-  one-transitions : 0 < L → (share : ℕ) (old : List ℕ) → Cleared (n * L) share old t → Cleared (n * L) share old t′ → t ≡ t′
-  one-transitions pos share old c d = one-buffer (n * L) share old t t′ c d (one-transition M Good Good L limit n t a t′ a′ x y pos)
+module _ {S : Type 0} {M : Machine S} {Good Good′ : Trace → Type 0} {L limit n : ℕ} {t a t′ a′ : List ℕ}
+    (x : machine.Automaton M Good L limit n t a) (y : machine.Automaton M Good′ L limit n t′ a′) where
+  pub one-transitions : 0 < L → (share : ℕ) (old : List ℕ) → Cleared (n * L) share old t → Cleared (n * L) share old t′ → t ≡ t′
+  one-transitions pos share old c d = one-buffer (n * L) share old t t′ c d (one-transition x y pos)
 
-  one-accepting : (share : ℕ) (old : List ℕ) → Cleared n share old a → Cleared n share old a′ → a ≡ a′
-  one-accepting share old c d = one-buffer n share old a a′ c d (one-flag M Good Good L limit n t a t′ a′ x y)
+  pub one-accepting : (share : ℕ) (old : List ℕ) → Cleared n share old a → Cleared n share old a′ → a ≡ a′
+  one-accepting share old c d = one-buffer n share old a a′ c d (one-flag x y)
 
 -- the buffers of a served call: the automaton with n states, and cleared behind it
 abbrev pub Built : (φ : Formula) (L n : ℕ) (t a t′ a′ : List ℕ) → Type 0
@@ -53,10 +53,8 @@ Built φ L n t a t′ a′ = Automaton φ L n t′ a′ × Cleared (n * L) (stat
 pub one-automaton : (L : ℕ) → 0 < L → (φ ψ : Formula) → φ ≡ ψ → (n m : ℕ) → n ≡ m → (t a t₁ a₁ t₂ a₂ : List ℕ)
     → Built φ L n t a t₁ a₁ → Built ψ L m t a t₂ a₂ → (t₁ ≡ t₂) × (a₁ ≡ a₂)
 one-automaton L pos φ ψ e n m f t a t₁ a₁ t₂ a₂ x y =
-    let z : Built φ L n t a t₂ a₂ = subst₂ (λ (χ : Formula) (k : ℕ). Built χ L k t a t₂ a₂) (sym e) (sym f) y in (
-      one-transitions (machineOf φ) (Satisfies φ) L stateLimit n t₁ a₁ t₂ a₂ (x .0) (z .0) pos (stateLimit * L) t (x .1) (z .1),
-      one-accepting (machineOf φ) (Satisfies φ) L stateLimit n t₁ a₁ t₂ a₂ (x .0) (z .0) stateLimit a (x .2) (z .2),
-    )
+    let z : Built φ L n t a t₂ a₂ = subst₂ (λ (χ : Formula) (k : ℕ). Built χ L k t a t₂ a₂) (sym e) (sym f) y in
+    (one-transitions (x .0) (z .0) pos (stateLimit * L) t (x .1) (z .1), one-accepting (x .0) (z .0) stateLimit a (x .2) (z .2))
 
 -- a refusal is 9 or another
 nine-or-other : (x : Refusal) → (x ≡ StateCount) ⊎ (x ≡ StateCount → ⊥)

@@ -13,6 +13,6 @@ use Rattle.automaton.specs.State.{machineOf}
 abbrev pub Automaton : (φ : Formula) (L n : ℕ) (transitions accepting : List ℕ) → Type 0
 Automaton φ L n transitions accepting = machine.Automaton (machineOf φ) (Satisfies φ) L stateLimit n transitions accepting
 
--- more than 128 different states are reachable
+-- more different states than the limit are reachable
 abbrev pub TooManyStates : (φ : Formula) (L : ℕ) → Type 0
 TooManyStates φ L = machine.TooManyStates (machineOf φ) L stateLimit

@@ -27,7 +27,7 @@ use Rattle.automaton.specs.Buffer.{Cleared}
 abbrev pub CountOf : (i o : ℕ) (text : List ℕ) (n : ℕ) → Type 0
 CountOf i o text n = (φ : Formula) → IsGood i (ruleKind i o) text φ → n ≡ stateCount φ (letterCount i o)
 
--- the buffers are too short for 128 states
+-- the buffers are too short for as many states as the limit
 abbrev pub shortAutomaton : (L : ℕ) (transitions accepting : List ℕ) → Bool
 shortAutomaton L transitions accepting = ltb (length transitions) (stateLimit * L) || ltb (length accepting) stateLimit
 
@@ -49,7 +49,7 @@ abbrev pub constructionPlace : Construction → ℕ
 constructionPlace (Built n) = 0
 constructionPlace (Refused x) = placeOf x
 
--- the buffers of a served call: the automaton of the text's formula with n states, 0 up to 128 states' share, and beyond as they were
+-- the buffers of a served call: the automaton of the text's formula with n states, 0 up to the share of as many states as the limit, and beyond as they were
 pub record ConstructionServed (i o : ℕ) (text : List ℕ) (n : ℕ) (transitions accepting transitions′ accepting′ : List ℕ) : Type 0 where
   pub formula : Formula
   pub good : IsGood i (ruleKind i o) text formula

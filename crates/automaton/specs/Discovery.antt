@@ -12,6 +12,6 @@ use Rattle.automaton.specs.State.{machineOf}
 abbrev pub states : (φ : Formula) (L : ℕ) → List ℕ
 states φ L = machine.states (machineOf φ) L stateLimit
 
--- their number: the specification's n where it is at most 128, and else more than 128
+-- their number: the specification's n where it is at most the limit, and else more than the limit
 abbrev pub stateCount : (φ : Formula) (L : ℕ) → ℕ
 stateCount φ L = machine.stateCount (machineOf φ) L stateLimit

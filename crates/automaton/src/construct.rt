@@ -47,7 +47,8 @@ fn build_nodes(
 ) -> usize
     requires { ⌜ ((φ : Formula) × Represents (now nodes) count φ) ⌝ }
     requires { ⌜ (0 < letters) × (letters ≤ 256) × (stateLimit * letters ≤ length (now transitions)) × (stateLimit ≤ length (now accepting)) ⌝ }
-    ensures built { λ r. ⌜ ((φ : Formula) → Represents (now (nodes .entry)) count φ → BuiltAutomaton φ letters r (now (transitions .entry)) (now (accepting .entry)) (now (transitions .exit)) (now (accepting .exit))) ⌝ }
+    ensures built { λ r. ⌜ ((φ : Formula) → Represents (now (nodes .entry)) count φ
+        → BuiltAutomaton φ letters r (now (transitions .entry)) (now (accepting .entry)) (now (transitions .exit)) (now (accepting .exit))) ⌝ }
     ensures bounded { λ r. ⌜ r ≤ suc stateLimit ⌝ }
 {
     let width = operator_count(nodes, count) + 1;
@@ -64,7 +65,8 @@ pub fn construct(
     transitions: &mut [u8],
     accepting: &mut [u8],
 ) -> Construction
-    ensures { λ r. ⌜ Constructed i o (now (text .entry)) (now (transitions .entry)) (now (accepting .entry)) (now (transitions .exit)) (now (accepting .exit)) r ⌝ }
+    ensures { λ r. ⌜ Constructed i o (now (text .entry)) (now (transitions .entry)) (now (accepting .entry))
+        (now (transitions .exit)) (now (accepting .exit)) r ⌝ }
 {
     if bad_alphabet(i, o) {
         return Construction::Refused(Refusal::Alphabet);

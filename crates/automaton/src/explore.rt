@@ -68,7 +68,8 @@ fn clear(buffer: &mut [u8], n: usize)
 // Sets the flag of each of the first n states to whether it holds the end valuation.
 fn mark_states(list: &[u64], n: usize, end: u64, accepting: &mut [u8])
     requires { ⌜ (n ≤ length (now list)) × (n ≤ length (now accepting)) × (end < 64) ⌝ }
-    ensures { λ r. ⌜ ((s : ℕ) → s < n → getD (now (accepting .exit)) s 0 ≡ one (bit (getD (now (list .entry)) s 0) end)) × ((s : ℕ) → n ≤ s → getD (now (accepting .exit)) s 0 ≡ getD (now (accepting .entry)) s 0) ⌝ }
+    ensures { λ r. ⌜ ((s : ℕ) → s < n → getD (now (accepting .exit)) s 0 ≡ one (bit (getD (now (list .entry)) s 0) end))
+        × ((s : ℕ) → n ≤ s → getD (now (accepting .exit)) s 0 ≡ getD (now (accepting .entry)) s 0) ⌝ }
 {
     let mut s: usize = 0;
     while s < n {
@@ -90,9 +91,13 @@ fn explore_state(
     transitions: &mut [u8],
     list: &mut [u64],
 ) -> usize
-    requires { ⌜ (vectors ≤ 64) × (letters ≤ 256) × Twins letters (vectors / 2) (now table) (now twins) × (s < count) × (count ≤ stateLimit) × (stateLimit * letters ≤ length (now transitions)) × (stateLimit ≤ length (now list)) ⌝ }
-    ensures explored { λ r. ⌜ ((φ : Formula) → Tabulates φ letters (now (table .entry)) → vectors ≡ 2 ^ suc (operators φ) → Progress φ letters count (s * letters) (now (list .entry)) (now (transitions .entry)) → StateExplored φ letters s r (now (list .exit)) (now (transitions .exit))) ⌝ }
-    ensures kept { λ r. ⌜ (count ≤ r) × (r ≤ suc stateLimit) × ((u : ℕ) → s * letters + letters ≤ u → getD (now (transitions .exit)) u 0 ≡ getD (now (transitions .entry)) u 0) ⌝ }
+    requires { ⌜ (vectors ≤ 64) × (letters ≤ 256) × Twins letters (vectors / 2) (now table) (now twins)
+        × (s < count) × (count ≤ stateLimit) × (stateLimit * letters ≤ length (now transitions)) × (stateLimit ≤ length (now list)) ⌝ }
+    ensures explored { λ r. ⌜ ((φ : Formula) → Tabulates φ letters (now (table .entry)) → vectors ≡ 2 ^ suc (operators φ)
+        → Progress φ letters count (s * letters) (now (list .entry)) (now (transitions .entry))
+        → StateExplored φ letters s r (now (list .exit)) (now (transitions .exit))) ⌝ }
+    ensures kept { λ r. ⌜ (count ≤ r) × (r ≤ suc stateLimit)
+        × ((u : ℕ) → s * letters + letters ≤ u → getD (now (transitions .exit)) u 0 ≡ getD (now (transitions .entry)) u 0) ⌝ }
 {
     let row = s * letters;
     let mut n = count;
@@ -130,9 +135,13 @@ fn explore(
     transitions: &mut [u8],
     list: &mut [u64],
 ) -> usize
-    requires { ⌜ (vectors ≤ 64) × (0 < letters) × (letters ≤ 256) × Twins letters (vectors / 2) (now table) (now twins) × (stateLimit * letters ≤ length (now transitions)) × (stateLimit ≤ length (now list)) ⌝ }
-    ensures explored { λ r. ⌜ ((φ : Formula) → Tabulates φ letters (now (table .entry)) → vectors ≡ 2 ^ suc (operators φ) → first ≡ start φ → Explored φ letters r (now (list .exit)) (now (transitions .exit))) ⌝ }
-    ensures kept { λ r. ⌜ (r ≤ suc stateLimit) × ((u : ℕ) → stateLimit * letters ≤ u → getD (now (transitions .exit)) u 0 ≡ getD (now (transitions .entry)) u 0) × (r ≤ stateLimit → (u : ℕ) → r * letters ≤ u → getD (now (transitions .exit)) u 0 ≡ getD (now (transitions .entry)) u 0) ⌝ }
+    requires { ⌜ (vectors ≤ 64) × (0 < letters) × (letters ≤ 256) × Twins letters (vectors / 2) (now table) (now twins)
+        × (stateLimit * letters ≤ length (now transitions)) × (stateLimit ≤ length (now list)) ⌝ }
+    ensures explored { λ r. ⌜ ((φ : Formula) → Tabulates φ letters (now (table .entry)) → vectors ≡ 2 ^ suc (operators φ) → first ≡ start φ
+        → Explored φ letters r (now (list .exit)) (now (transitions .exit))) ⌝ }
+    ensures kept { λ r. ⌜ (r ≤ suc stateLimit)
+        × ((u : ℕ) → stateLimit * letters ≤ u → getD (now (transitions .exit)) u 0 ≡ getD (now (transitions .entry)) u 0)
+        × (r ≤ stateLimit → (u : ℕ) → r * letters ≤ u → getD (now (transitions .exit)) u 0 ≡ getD (now (transitions .entry)) u 0) ⌝ }
 {
     list[0] = first;
     let mut n: usize = 1;
@@ -158,8 +167,10 @@ pub(crate) fn build(
     transitions: &mut [u8],
     accepting: &mut [u8],
 ) -> usize
-    requires { ⌜ (1 ≤ width) × (width ≤ 6) × (end < 64) × (0 < letters) × (letters ≤ 256) × (stateLimit * letters ≤ length (now transitions)) × (stateLimit ≤ length (now accepting)) ⌝ }
-    ensures built { λ r. ⌜ ((φ : Formula) → Tabulates φ letters (now (table .entry)) → width ≡ suc (operators φ) → end ≡ endVector φ → BuiltAutomaton φ letters r (now (transitions .entry)) (now (accepting .entry)) (now (transitions .exit)) (now (accepting .exit))) ⌝ }
+    requires { ⌜ (1 ≤ width) × (width ≤ 6) × (end < 64) × (0 < letters) × (letters ≤ 256)
+        × (stateLimit * letters ≤ length (now transitions)) × (stateLimit ≤ length (now accepting)) ⌝ }
+    ensures built { λ r. ⌜ ((φ : Formula) → Tabulates φ letters (now (table .entry)) → width ≡ suc (operators φ) → end ≡ endVector φ
+        → BuiltAutomaton φ letters r (now (transitions .entry)) (now (accepting .entry)) (now (transitions .exit)) (now (accepting .exit))) ⌝ }
     ensures bounded { λ r. ⌜ r ≤ suc stateLimit ⌝ }
 {
     let vectors = 1u64 << width;

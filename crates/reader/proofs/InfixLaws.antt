@@ -2,12 +2,13 @@
 -- Assumes nothing.
 use mathlib.Core.Path.{_≡_, sym, ap, subst, _∙_}
 use mathlib.Core.List.{List, _∷_, _++_, append-assoc}
-use Prim.Native.Nat.{ℕ, suc, _+_, _≤_, _<_}
+use Prim.Native.Nat.{ℕ, suc, _+_, _-_, _*_, _≤_, _<_}
 use native.Mathlib.Omega.{arith}
 use lib.ListN.{length, getD, drop, set}
 use lib.Seq.{sets}
 use Rattle.reader.specs.declared.marks.Kind.the-variants.{Infix}
 use Rattle.reader.specs.declared.levels.Pos.{Pos}
+use Rattle.reader.specs.Text.{Text}
 use Rattle.reader.specs.Limits.{nodeLimit, operatorLimit}
 use Rattle.reader.specs.Formula.{Formula, binary, size, operators, withBinary}
 use Rattle.reader.specs.Marks.{markKind, binaryOf}
@@ -19,8 +20,20 @@ use Rattle.reader.proofs.MarkLaws.{infix-tick}
 use Rattle.reader.proofs.NodeLaws.{size-binary, operators-binary, code-binary}
 use Rattle.reader.proofs.FollowLaws.{follow-level, follow-down, follow-infix}
 
+-- the measure of a call of a reading function: six times the bytes left, and the level on top
+abbrev pub measure : (text : Text) (p : Pos) (l : ℕ) → ℕ
+measure text p l = 6 * (length text - p .at) + l
+
+-- what a call of the measure t is given
+abbrev pub Given : (t i l : ℕ) (text : Text) (p : Pos) (room : ℕ) → Type 0
+Given t i l text p room = (measure text p l ≡ t) × Readable i l text p room
+
+-- what is asked of the calls that it makes
+abbrev pub Falling : (t i l : ℕ) (text : Text) (p : Pos) (room : ℕ) → Type 0
+Falling t i l text p room = (measure text p l < t) × Readable i l text p room
+
 -- a formula of a level begins with one of the level below
-pub down : {i : ℕ} (l : ℕ) {text : List ℕ} {p : Pos} {room : ℕ} → Readable i (suc l) text p room → Readable i l text p room
+down : {i : ℕ} (l : ℕ) {text : List ℕ} {p : Pos} {room : ℕ} → Readable i (suc l) text p room → Readable i l text p room
 down {i} l {text} {p} {room} r = go (r .taken) (r .formula) (r .derived) (r .here) (r .fits) (r .few)
   where
     go : (w : List ℕ) (φ : Formula) → Derives i markKind (suc l) w φ → withoutBlanks (drop (p .at) text) ≡ w ++ r .rest
@@ -52,6 +65,10 @@ down {i} l {text} {p} {room} r = go (r .taken) (r .formula) (r .derived) (r .her
           small = r .small;
         }
 
+-- so the level below can be read
+pub lower-ready : {t i : ℕ} (l : ℕ) {text : List ℕ} {p : Pos} {room : ℕ} → Given t i (suc l) text p room → Falling t i l text p room
+lower-ready l given = (omega (arith, given .0), down l (given .1))
+
 -- the nodes written and the coordinate stay small
 counts : {i l : ℕ} {text : List ℕ} {p : Pos} {room : ℕ} → Readable i l text p room → {out : List ℕ} {q : Pos} {out′ : List ℕ}
     → Consumed i l text p out q out′ → (q .nodes ≤ room) × (q .coordinate ≤ operatorLimit + 1) × (room ≤ nodeLimit)
@@ -76,8 +93,11 @@ alone {i} l {text} {p} {out} {q} {out₁} first level n = record { past = first 
         absurd (n (level .first ∙ (ap firstLevel (a .left) ∙ ap levelOf k)))
 
 -- a formula of the level below has been read up to q, and an infix mark of the level is there
-module _ {i : ℕ} (l : ℕ) {text : List ℕ} {p : Pos} {room : ℕ} (r : Readable i (suc l) text p room) {out : List ℕ} {q : Pos} {out₁ : List ℕ}
+module _ {t i : ℕ} (l : ℕ) {text : List ℕ} {p : Pos} {room : ℕ} (given : Given t i (suc l) text p room) {out : List ℕ} {q : Pos} {out₁ : List ℕ}
     (first : Consumed i l text p out q out₁) {m : ℕ} (level : LevelAt text (q .at) m) (here : m ≡ suc l) where
+  abbrev r : Readable i (suc l) text p room
+  r = given .1
+
   pub over-ready : NotBlank text (q .at) × ((q .at < length text) × (q .coordinate ≤ operatorLimit + 1))
   over-ready = (first .no-blank, (level .inside (omega arith), coordinate-small (down l r) first))
 
@@ -119,7 +139,7 @@ module _ {i : ℕ} (l : ℕ) {text : List ℕ} {p : Pos} {room : ℕ} (r : Reada
     readable-operands : Operands (r .rest) (r .formula)
     readable-operands = operands (r .taken) (r .rest) (r .formula) (r .here) (r .derived) (r .follows)
 
-    pub right : {now-room : ℕ} → now-room ≡ room → Readable i (suc l) text o now-room
+    right : {now-room : ℕ} → now-room ≡ room → Readable i (suc l) text o now-room
     right e =
         let s = readable-operands in
         let b = getD text (q .at) 0 in
@@ -138,6 +158,9 @@ module _ {i : ℕ} (l : ℕ) {text : List ℕ} {p : Pos} {room : ℕ} (r : Reada
           few = omega (arith, mark .coordinate, s .left .coordinate, r .few, infix-tick b (suc l) (s .kind) k);
           small = omega (arith, r .small);
         }
+
+    pub right-ready : {now-room : ℕ} → now-room ≡ room → Falling t i (suc l) text o now-room
+    right-ready e = (omega (arith, given .0, first .past, mark .past, mark .within), right e)
 
     -- the right operand has been read up to z
     module _ {z : Pos} {out₂ : List ℕ} (second : Consumed i (suc l) text o out₁ z out₂) where

@@ -21,7 +21,7 @@ use Rattle.reader.proofs.MarkLaws.{operand-size, operand-operators, ope
 use Rattle.reader.proofs.NodeLaws.{size-pos, size-unary, operators-unary, code-unary}
 use Rattle.reader.proofs.TextLaws.{inside}
 use Rattle.reader.proofs.FollowLaws.{follow-close}
-use Rattle.reader.proofs.InfixLaws.{coordinate-small}
+use Rattle.reader.proofs.InfixLaws.{measure, Falling, coordinate-small}
 
 -- a test of kinds has the same answer on equal bytes
 same-test : (test : Kind → Bool) (x y : ℕ) (k : Kind) (t : Bool) → x ≡ y → markKind y ≡ k → test (markKind x) ≡ t → test k ≡ t
@@ -74,7 +74,7 @@ module _ (i : ℕ) {text : List ℕ} {p q : Pos} (mark : PastMark text p q) wher
       readable-held : Held (r .rest) (r .formula)
       readable-held = held (r .taken) (r .rest) (r .formula) (r .derived) (r .here)
 
-      pub within : Readable i 4 text (inner p q) room
+      within : Readable i 4 text (inner p q) room
       within =
           let h = readable-held in
           record {
@@ -89,6 +89,9 @@ module _ (i : ℕ) {text : List ℕ} {p q : Pos} (mark : PastMark text p q) wher
             few = r .few;
             small = r .small;
           }
+
+      pub held-ready : {t : ℕ} → measure text p 0 ≡ t → Falling t i 4 text (inner p q) room
+      held-ready e = (omega (arith, mark .past, mark .within), within)
 
       -- what they hold has been read up to z
       module _ {out : List ℕ} {z : Pos} {out₁ : List ℕ} (k : Consumed i 4 text (inner p q) out z out₁) where
@@ -143,7 +146,7 @@ module _ (i : ℕ) {text : List ℕ} {p q : Pos} (mark : PastMark text p q) wher
       readable-bound : Bound (r .rest) (r .formula)
       readable-bound = bound (r .taken) (r .rest) (r .formula) (r .derived) (r .here)
 
-      pub below : Readable i 0 text q room
+      below : Readable i 0 text q room
       below =
           let h = readable-bound in
           let b = getD text (p .at) 0 in
@@ -161,6 +164,9 @@ module _ (i : ℕ) {text : List ℕ} {p q : Pos} (mark : PastMark text p q) wher
             few = omega (arith, mark .coordinate, r .few, prefix-tick b (h .kind) (operators (h .α)));
             small = r .small;
           }
+
+      pub bound-ready : {t : ℕ} → measure text p 0 ≡ t → Falling t i 0 text q room
+      bound-ready e = (omega (arith, mark .past, mark .within), below)
 
       -- the operand has been read up to z
       module _ {out : List ℕ} {z : Pos} {out₁ : List ℕ} (k : Consumed i 0 text q out z out₁) where

@@ -21,15 +21,15 @@ wordAt list i = getD list i 0
 abbrev pub Progress : (φ : Formula) (L n t : ℕ) (list transitions : List ℕ) → Type 0
 Progress φ L n t list transitions = machine.Progress (machineOf φ) L n t (wordAt list) transitions
 
--- the exploration found r states, or more than 128 where r is 129; the list holds them, and the transitions are theirs
+-- the exploration found r states, or more than the limit where r is one more than that; the list holds them, and the transitions are theirs
 abbrev pub Explored : (φ : Formula) (L r : ℕ) (list transitions : List ℕ) → Type 0
 Explored φ L r list transitions = machine.Explored (machineOf φ) L stateLimit r (wordAt list) transitions
 
--- after every letter of state s: r states are discovered, or more than 128 where r is 129
+-- after every letter of state s: r states are discovered, or more than the limit where r is one more than that
 abbrev pub StateExplored : (φ : Formula) (L s r : ℕ) (list transitions : List ℕ) → Type 0
 StateExplored φ L s r list transitions = machine.StateExplored (machineOf φ) L stateLimit s r (wordAt list) transitions
 
--- the buffers where the formula has at most 128 states: its automaton, 0 up to 128 states' share, and beyond as they were
+-- the buffers where the formula has no more states than the limit: its automaton, 0 up to the limit's share, and beyond as they were
 pub record WithinLimit (φ : Formula) (L r : ℕ) (transitions accepting transitions′ accepting′ : List ℕ) : Type 0 where
   pub count : r ≡ stateCount φ L
   pub automaton : Automaton φ L r transitions′ accepting′
@@ -43,7 +43,7 @@ pub record BeyondLimit (φ : Formula) (L : ℕ) (transitions accepting transitio
   pub cleared : Cleared 0 (stateLimit * L) transitions transitions′
   pub untouched : accepting′ ≡ accepting
 
--- what `build` hands back: the number of states, 129 for any above 128
+-- what `build` hands back: the number of states, one more than the limit for any above it
 pub record BuiltAutomaton (φ : Formula) (L r : ℕ) (transitions accepting transitions′ accepting′ : List ℕ) : Type 0 where
   pub within : r ≤ stateLimit → WithinLimit φ L r transitions accepting transitions′ accepting′
   pub beyond : r ≡ suc stateLimit → BeyondLimit φ L transitions accepting transitions′ accepting′

@@ -11,7 +11,8 @@ use Rattle.automaton.proofs.construct.build_nodes.Statement.{statement}
 use Rattle.automaton.proofs.construct.build_nodes.Tie as tie
 
 -- the width, for a formula that the nodes represent
-width-is : (c : tie.After-operator-count) (φ : Formula) → Represents (c .before .before .before .args .nodes .now) (c .before .before .before .args .count) φ → c .operator-count .result + 1 ≡ suc (operators φ)
+width-is : (c : tie.After-operator-count) (φ : Formula)
+    → Represents (c .before .before .before .args .nodes .now) (c .before .before .before .args .count) φ → c .operator-count .result + 1 ≡ suc (operators φ)
 width-is c φ r = omega (arith, c .operator-count .ensures .0 φ r)
 
 narrow : (c : tie.After-operator-count) → c .operator-count .result + 1 ≤ 6
@@ -34,8 +35,15 @@ tabulate-requires c κs = (short (c .before .before .before .before), narrow (c 
 
 build-requires : tie.Need-build-requires
 build-requires c κs =
-    let z = c .before .before .before .before .before .before .before .before in
-    (omega arith, narrow (c .before .before .before .before .before), c .before .before .before .before .end-vector .ensures .1, z .pre .1 .0, z .pre .1 .1, z .pre .1 .2, z .pre .1 .3)
+    let z = c .before .before .before .before .before .before .before .before in (
+      omega arith,
+      narrow (c .before .before .before .before .before),
+      c .before .before .before .before .end-vector .ensures .1,
+      z .pre .1 .0,
+      z .pre .1 .1,
+      z .pre .1 .2,
+      z .pre .1 .3,
+    )
 
 same-length : tie.Need-same-length
 same-length c = search needs
@@ -48,7 +56,9 @@ returns c =
     let b = c .before .before .before .before in
     let t = b .before .before .before .before in
     let e = t .before in (
-      λ φ r. b .build .ensures .0 φ (t .tabulate .ensures φ r (width-is (e .before) φ r)) (width-is (e .before) φ r) (e .end-vector .ensures .0 φ r (width-is (e .before) φ r)),
+      λ φ r.
+          b .build .ensures .0 φ (t .tabulate .ensures φ r (width-is (e .before) φ r)) (width-is (e .before) φ r)
+          (e .end-vector .ensures .0 φ r (width-is (e .before) φ r)),
       b .build .ensures .1,
     )
 

@@ -16,22 +16,23 @@ use Rattle.automaton.specs.Trace.{Satisfies}
 use Rattle.automaton.specs.Valuation.{vectors, endVector}
 use Rattle.automaton.specs.State.{start, accepts, machineOf}
 use Rattle.automaton.specs.Discovery.{states, stateCount}
-use Rattle.automaton.specs.Automaton.{Automaton}
 use Rattle.automaton.specs.Buffer.{Cleared}
 use Rattle.automaton.specs.inner.Exploration.{Explored, BuiltAutomaton}
 use Rattle.automaton.proofs.BitLaws.{one-shifted}
 use Rattle.automaton.proofs.Meaning.{formula-recognizes}
 
 -- the bytes from `used` on are as they were
-abbrev pub Kept : ℕ → List ℕ → List ℕ → Type 0
+abbrev pub Kept : (used : ℕ) (old new : List ℕ) → Type 0
 Kept used old new = (k : ℕ) → used ≤ k → getD new k 0 ≡ getD old k 0
 
 -- a cleared share of which the first bytes were written
-cleared-written : (used share : ℕ) (old l new : List ℕ) → used ≤ share → Cleared 0 share old l → Kept used l new → length new ≡ length l → Cleared used share old new
+cleared-written : (used share : ℕ) (old l new : List ℕ) → used ≤ share → Cleared 0 share old l → Kept used l new → length new ≡ length l
+    → Cleared used share old new
 cleared-written used share old l new h c kept e =
     record { size = e ∙ c .size; rest = λ k a b. kept k a ∙ c .rest k zero-le b; beyond = λ k a. kept k (omega arith) ∙ c .beyond k a }
 
-pub built-within : (φ : Formula) (L r end : ℕ) (transitions t₁ t₂ accepting a₁ a₂ list : List ℕ) → 0 < L → r ≤ stateLimit → Explored φ L r list t₂ → end ≡ endVector φ
+pub built-within : (φ : Formula) (L r end : ℕ) (transitions t₁ t₂ accepting a₁ a₂ list : List ℕ) → 0 < L → r ≤ stateLimit
+    → Explored φ L r list t₂ → end ≡ endVector φ
     → Cleared 0 (stateLimit * L) transitions t₁ → Kept (r * L) t₁ t₂ → length t₂ ≡ length t₁
     → Cleared 0 stateLimit accepting a₁ → ((s : ℕ) → s < r → getD a₂ s 0 ≡ one (bit (getD list s 0) end)) × Kept r a₁ a₂ → length a₂ ≡ length a₁
     → BuiltAutomaton φ L r transitions accepting t₂ a₂

@@ -86,7 +86,8 @@ module _ (nodes : List ℕ) where
   at o = coordinateOf (getD nodes o 0)
 
   -- a node's coordinate, if it has one, is its argument
-  own : (i k K L o : ℕ) → K < fieldSize → L < fieldSize → k < placeCount → getD nodes i 0 ≡ wordOf K L k → o ≡ i → 0 < at o → (at o ≡ k) × (one (temporalKind K) ≡ 1)
+  own : (i k K L o : ℕ) → K < fieldSize → L < fieldSize → k < placeCount → getD nodes i 0 ≡ wordOf K L k → o ≡ i → 0 < at o
+      → (at o ≡ k) × (one (temporalKind K) ≡ 1)
   own i k K L o hK hL hk e q p = chosen (temporalKind K) (at o) k (ap at q ∙ coordinate-word K L k _ hK hL hk e) p
 
   -- the coordinates of a formula's operators lie between its first and the last

@@ -10,7 +10,7 @@ use Rattle.machine.specs.Discovery as machine
 use Rattle.machine.proofs.Reachable.{too-many}
 use Rattle.machine.proofs.AutomatonLaws.{moved-at, automaton-holds}
 use Rattle.reader.specs.Formula.{Formula, operators}
-use Rattle.automaton.specs.Limits.{stateLimit}
+use Rattle.automaton.specs.Limits.{stateLimit, coordinateLimit}
 use Rattle.automaton.specs.Bits.{bit, one, ofBits}
 use Rattle.automaton.specs.Trace.{Satisfies}
 use Rattle.automaton.specs.Valuation.{vectors, endVector}
@@ -73,9 +73,10 @@ built-beyond φ L r transitions t₁ t₂ t₃ accepting list pos many ex c₁ k
     }
 
 -- `1 << width` is the number of valuations, and the start is made from it
-pub vectors-shifted : (φ : Formula) (w : ℕ) → w ≤ 6 → w ≡ suc (operators φ) → 1 * 2 ^ w % 2 ^ 64 ≡ 2 ^ suc (operators φ)
+pub vectors-shifted : (φ : Formula) (w : ℕ) → w ≤ coordinateLimit → w ≡ suc (operators φ) → 1 * 2 ^ w % 2 ^ 64 ≡ 2 ^ suc (operators φ)
 vectors-shifted φ w h e = one-shifted w h ∙ ap (λ (i : ℕ). 2 ^ i) e
 
-pub start-made : (φ : Formula) (first w : ℕ) → w ≤ 6 → w ≡ suc (operators φ) → first ≡ ofBits (λ v. bit v 0) (1 * 2 ^ w % 2 ^ 64) → first ≡ start φ
+pub start-made : (φ : Formula) (first w : ℕ) → w ≤ coordinateLimit → w ≡ suc (operators φ)
+    → first ≡ ofBits (λ v. bit v 0) (1 * 2 ^ w % 2 ^ 64) → first ≡ start φ
 unfolding start vectors
 start-made φ first w h e p = p ∙ ap (ofBits (λ v. bit v 0)) (vectors-shifted φ w h e)

@@ -12,7 +12,7 @@ use lib.Pow.{pow-mono}
 use Rattle.reader.specs.Limits.{nodeLimit}
 use Rattle.reader.specs.Formula.{Unary, Binary, neg, next, weak, eventually, always, until, release, conj, disj, impl, withUnary, withBinary}
 use Rattle.reader.specs.Formula.{Formula, constant, name, unary, binary, operators}
-use Rattle.reader.specs.inner.Nodes.{unaryCode, binaryCode, wordOf}
+use Rattle.reader.specs.inner.Nodes.{unaryCode, binaryCode, fieldSize, wordOf}
 use Rattle.automaton.specs.Limits.{coordinateLimit, vectorLimit}
 use Rattle.automaton.specs.Bits.{bit, ofBits, gather}
 use Rattle.automaton.specs.Valuation.{value, coords, ends, present, endVector}
@@ -133,7 +133,7 @@ module _ (g : ℕ → Bool) where
 module _ (nodes places : List ℕ) (m : ℕ) (few : m ≤ nodeLimit)
     (pl : (o : ℕ) → o < m → 0 < coordinateOf (getD nodes o 0) → getD places (coordinateOf (getD nodes o 0)) 0 ≡ o) where
   -- what is asked of a coordinate's node is asked of the operator that has it
-  operator : {A : Type 0} (f : ℕ → ℕ → A) (i K L k : ℕ) → K < 256 → L < 256 → 0 < k
+  operator : {A : Type 0} (f : ℕ → ℕ → A) (i K L k : ℕ) → K < fieldSize → L < fieldSize → 0 < k
       → k < placeCount → i < m → getD nodes i 0 ≡ wordOf K L k → temporalKind K ≡ true
       → f (nodeKind (getD nodes (getD places k 0) 0)) (getD places k 0) ≡ f K i
   operator f i K L k hK hL pos hk h e t =

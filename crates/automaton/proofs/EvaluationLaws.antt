@@ -13,7 +13,7 @@ use lib.Seq.{getD-set-same, getD-set-other}
 use Rattle.reader.specs.Limits.{nodeLimit}
 use Rattle.reader.specs.Formula.{Unary, Binary, neg, next, weak, eventually, always, until, release, conj, disj, impl, withUnary, withBinary}
 use Rattle.reader.specs.Formula.{Formula, constant, name, unary, binary, operators}
-use Rattle.reader.specs.inner.Nodes.{constantCode, unaryCode, binaryCode, wordOf}
+use Rattle.reader.specs.inner.Nodes.{constantCode, unaryCode, binaryCode, fieldSize, wordOf}
 use Rattle.automaton.specs.Limits.{vectorLimit}
 use Rattle.automaton.specs.Bits.{bit, ofBits}
 use Rattle.automaton.specs.Valuation.{value}
@@ -48,7 +48,7 @@ module _ (nodes : List ℕ) (a : ℕ) (ws : List ℕ) where
   given i = nodeWord (nodeKind (getD nodes i 0)) (argumentOf (getD nodes i 0)) a (leftAt i) (rightAt i)
 
   -- the fields are known
-  fields : (i K L A : ℕ) {x : ℕ} → K < 256 → L < 256 → getD nodes i 0 ≡ wordOf K L A → nodeWord K A a (leftAt i) (rightAt i) ≡ x → given i ≡ x
+  fields : (i K L A : ℕ) {x : ℕ} → K < fieldSize → L < fieldSize → getD nodes i 0 ≡ wordOf K L A → nodeWord K A a (leftAt i) (rightAt i) ≡ x → given i ≡ x
   fields i K L A {x} hK hL e h =
       subst (λ (k : ℕ). nodeWord k (argumentOf (getD nodes i 0)) a (leftAt i) (rightAt i) ≡ x) (sym (ap nodeKind e ∙ kind-field K L A hK hL))
       (subst (λ (n : ℕ). nodeWord K n a (leftAt i) (rightAt i) ≡ x) (sym (ap argumentOf e ∙ argument-field K L A hK hL)) h)
@@ -59,7 +59,7 @@ module _ (nodes : List ℕ) (a : ℕ) (ws : List ℕ) where
       let e : suc i - 1 ≡ i = omega arith in
       ap (λ (j : ℕ). getD ws j 0) e ∙ ev i (le-refl (suc i)) k φ t
 
-  left-word : {i j k : ℕ} {φ : Formula} (K A : ℕ) → K < 256 → suc j < 256 → Evaluated nodes a ws (suc i)
+  left-word : {i j k : ℕ} {φ : Formula} (K A : ℕ) → K < fieldSize → suc j < fieldSize → Evaluated nodes a ws (suc i)
       → getD nodes (suc i) 0 ≡ wordOf K (suc j) A → j ≤ i → Node nodes j k φ → leftAt (suc i) ≡ setOf (λ v. value φ k a v)
   unfolding Evaluated
   left-word {i} {j} {k} {φ} K A hK hL ev e h t =
@@ -82,7 +82,7 @@ module _ (nodes : List ℕ) (a : ℕ) (ws : List ℕ) where
   unary-given i k always φ e R =
       fields i 7 0 k (omega arith) (omega arith) e (and-sets (rightAt i) (setOf (λ v. bit v k)) (λ v. value φ (suc k) a v) (λ v. bit v k) R refl)
 
-  binary-given : (i k j : ℕ) (b : Binary) (φ ψ : Formula) → j < 256
+  binary-given : (i k j : ℕ) (b : Binary) (φ ψ : Formula) → j < fieldSize
       → getD nodes i 0 ≡ wordOf (binaryCode b) j (k + operators φ) → leftAt i ≡ setOf (λ v. value φ k a v)
       → rightAt i ≡ setOf (λ v. value ψ (withBinary b (k + operators φ)) a v) → given i ≡ setOf (λ v. value (binary b φ ψ) k a v)
   unfolding nodeWord value

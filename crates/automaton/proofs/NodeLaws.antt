@@ -9,13 +9,13 @@ use lib.Seq.{getD-append-add, sets, sets-eq}
 use Rattle.reader.specs.Limits.{nodeLimit, operatorLimit}
 use Rattle.reader.specs.Formula.{Unary, neg, next, weak, eventually, always, Binary, until, release, conj, disj, impl, withUnary, withBinary}
 use Rattle.reader.specs.Formula.{Formula, constant, name, unary, binary, size, operators}
-use Rattle.reader.specs.inner.Nodes.{unaryCode, binaryCode, wordOf, code, nodesOf}
+use Rattle.reader.specs.inner.Nodes.{unaryCode, binaryCode, fieldSize, wordOf, code, nodesOf}
 use Rattle.automaton.specs.inner.Representation.{Represents}
 use Rattle.reader.proofs.NodeLaws.{size-pos, code-length}
 use Rattle.automaton.specs.inner.Nodes.{Node, at-constant, at-name, at-unary, at-binary, nodeKind, leftOf, argumentOf}
 
 -- ---- the fields of a word
-module _ (kind left argument : ℕ) (small : kind < 256) (near : left < 256) where
+module _ (kind left argument : ℕ) (small : kind < fieldSize) (near : left < fieldSize) where
   pub kind-field : nodeKind (wordOf kind left argument) ≡ kind
   kind-field = omega arith
 
@@ -26,14 +26,14 @@ module _ (kind left argument : ℕ) (small : kind < 256) (near : left < 256) whe
   argument-field = omega arith
 
 -- a kind fits its field
-pub unary-small : (u : Unary) → unaryCode u < 256
+pub unary-small : (u : Unary) → unaryCode u < fieldSize
 unary-small neg = omega arith
 unary-small next = omega arith
 unary-small weak = omega arith
 unary-small eventually = omega arith
 unary-small always = omega arith
 
-pub binary-small : (b : Binary) → binaryCode b < 256
+pub binary-small : (b : Binary) → binaryCode b < fieldSize
 binary-small until = omega arith
 binary-small release = omega arith
 binary-small conj = omega arith

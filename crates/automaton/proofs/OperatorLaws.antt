@@ -13,7 +13,7 @@ use lib.Seq.{getD-set-same, getD-set-other}
 use Rattle.reader.specs.Limits.{nodeLimit}
 use Rattle.reader.specs.Formula.{Unary, Binary, neg, next, weak, eventually, always, until, release, conj, disj, impl, withUnary, withBinary}
 use Rattle.reader.specs.Formula.{Formula, constant, name, unary, binary, size, operators}
-use Rattle.reader.specs.inner.Nodes.{constantCode, nameCode, unaryCode, binaryCode, wordOf}
+use Rattle.reader.specs.inner.Nodes.{constantCode, nameCode, unaryCode, binaryCode, fieldSize, wordOf}
 use Rattle.automaton.specs.Bits.{one}
 use Rattle.automaton.specs.inner.Representation.{Represents}
 use Rattle.automaton.specs.inner.Nodes.{Node, at-constant, at-name, at-unary, at-binary, nodeKind, argumentOf}
@@ -34,11 +34,11 @@ same-or m n =
     (below-or m n)
 
 -- ---- the coordinate in a word
-temporal-word : (K L A w : ℕ) → K < 256 → L < 256 → w ≡ wordOf K L A → isTemporalNode w ≡ temporalKind K
+temporal-word : (K L A w : ℕ) → K < fieldSize → L < fieldSize → w ≡ wordOf K L A → isTemporalNode w ≡ temporalKind K
 unfolding isTemporalNode
 temporal-word K L A w hK hL e = ap temporalKind (ap nodeKind e ∙ kind-field K L A hK hL)
 
-pub coordinate-word : (K L A w : ℕ) → K < 256 → L < 256 → A < placeCount → w ≡ wordOf K L A → coordinateOf w ≡ cond (temporalKind K) A 0
+pub coordinate-word : (K L A w : ℕ) → K < fieldSize → L < fieldSize → A < placeCount → w ≡ wordOf K L A → coordinateOf w ≡ cond (temporalKind K) A 0
 unfolding coordinateOf
 coordinate-word K L A w hK hL hA e =
     ap₂ (λ (b : Bool) (n : ℕ). cond b n 0) (temporal-word K L A w hK hL e)
@@ -64,7 +64,7 @@ chosen : (t : Bool) (c A : ℕ) → c ≡ cond t A 0 → 0 < c → (c ≡ A) × 
 chosen true c A e h = (e, refl)
 chosen false c A e h = absurd (let z : ⊥ = omega arith in z)
 
-no-coordinate-word : (K L A w : ℕ) → K < 256 → L < 256 → temporalKind K ≡ false → w ≡ wordOf K L A → coordinateOf w ≡ 0
+no-coordinate-word : (K L A w : ℕ) → K < fieldSize → L < fieldSize → temporalKind K ≡ false → w ≡ wordOf K L A → coordinateOf w ≡ 0
 unfolding coordinateOf
 no-coordinate-word K L A w hK hL n e = ap (λ (b : Bool). cond b (argumentOf w % placeCount) 0) (temporal-word K L A w hK hL e ∙ n)
 
@@ -76,7 +76,7 @@ coordinate-small w = pick (isTemporalNode w)
     pick true = omega arith
     pick false = omega arith
 
-constant-plain : (b : Bool) → (constantCode b < 256) × (temporalKind (constantCode b) ≡ false)
+constant-plain : (b : Bool) → (constantCode b < fieldSize) × (temporalKind (constantCode b) ≡ false)
 constant-plain true = (omega arith, refl)
 constant-plain false = (omega arith, refl)
 
@@ -86,7 +86,8 @@ module _ (nodes : List ℕ) where
   at o = coordinateOf (getD nodes o 0)
 
   -- a node's coordinate, if it has one, is its argument
-  own : (i k K L o : ℕ) → K < 256 → L < 256 → k < placeCount → getD nodes i 0 ≡ wordOf K L k → o ≡ i → 0 < at o → (at o ≡ k) × (one (temporalKind K) ≡ 1)
+  own : (i k K L o : ℕ) → K < fieldSize → L < fieldSize → k < placeCount → getD nodes i 0 ≡ wordOf K L k → o ≡ i → 0 < at o
+      → (at o ≡ k) × (one (temporalKind K) ≡ 1)
   own i k K L o hK hL hk e q p = chosen (temporalKind K) (at o) k (ap at q ∙ coordinate-word K L k _ hK hL hk e) p
 
   -- the coordinates of a formula's operators lie between its first and the last

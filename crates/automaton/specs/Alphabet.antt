@@ -7,6 +7,7 @@ use mathlib.Core.List.{List, [], _∷_}
 use lib.Dec.{ltb, leb}
 use lib.ListN.{length}
 use Rattle.reader.specs.declared.refusal.Refusal.{Refusal}
+use Rattle.machine.specs.Letters.{Letter}
 -- every letter of a trace is below L
 unfoldable pub use Rattle.machine.specs.Letters.{Letters}
 use Rattle.automaton.specs.Limits.{nameLimit}
@@ -20,7 +21,7 @@ abbrev pub letterCount : (i o : ℕ) → ℕ
 letterCount i o = 2 ^ (i + o)
 
 -- the letter of input x and output y, where there are `inputs` input numbers
-abbrev pub letterOf : (inputs x y : ℕ) → ℕ
+abbrev pub letterOf : (inputs x y : ℕ) → Letter
 letterOf inputs x y = x + inputs * y
 
 -- the index of the first number of a list that is `bound` or more, or the list's length

@@ -4,11 +4,12 @@
 use Prim.Native.Nat.{ℕ}
 use mathlib.Core.Path.{_≡_}
 use mathlib.Core.Bool.{Bool, true, cond}
-use mathlib.Core.List.{List}
 use mathlib.Core.Logic.{_↔_}
 use Rattle.reader.specs.declared.reading.Reading.{Reading}
 use Rattle.reader.specs.declared.refusal.Refusal.{Refusal}
 use Rattle.reader.specs.declared.refusal.Refusal.the-variants.{Nothing, Alphabet, TextLength, Value}
+use Rattle.machine.specs.Letters.{Trace}
+use Rattle.reader.specs.Text.{Text}
 use Rattle.reader.specs.Limits.{tooLong}
 use Rattle.reader.specs.Formula.{Formula}
 use Rattle.reader.specs.Marks.{ruleKind}
@@ -20,7 +21,7 @@ use Rattle.automaton.specs.Alphabet.{badAlphabet, letterCount, firstOver
 use Rattle.automaton.specs.Trace.{Satisfies}
 
 -- the refusal that comes first, for a text with the reading ρ
-unfoldable pub trialRefusal : (i o : ℕ) (text letters : List ℕ) (ρ : Reading) → Refusal
+unfoldable pub trialRefusal : (i o : ℕ) (text : Text) (letters : Trace) (ρ : Reading) → Refusal
 unfolding firstOver
 trialRefusal i o text letters ρ =
     cond (badAlphabet i o) Alphabet
@@ -40,7 +41,7 @@ trialPlace Violated = 0
 trialPlace (Refused x) = placeOf x
 
 -- the answer of a served call
-pub record Judged (i o : ℕ) (text letters : List ℕ) (r : Trial) : Type 0 where
+pub record Judged (i o : ℕ) (text : Text) (letters : Trace) (r : Trial) : Type 0 where
   pub formula : Formula
   pub good : IsGood i (ruleKind i o) text formula
   pub satisfied : Bool
@@ -48,7 +49,7 @@ pub record Judged (i o : ℕ) (text letters : List ℕ) (r : Trial) : Type 0 whe
   pub right : (satisfied ≡ true) ↔ Satisfies formula letters
 
 -- the whole promise: number and place, and where the call is served whether the list satisfies the rule
-pub record Tried (i o : ℕ) (text letters : List ℕ) (r : Trial) : Type 0 where
+pub record Tried (i o : ℕ) (text : Text) (letters : Trace) (r : Trial) : Type 0 where
   pub reading : Reading
   pub read : ReadingOf i (ruleKind i o) text reading
   pub refusal : Refusal

@@ -9,6 +9,8 @@ ghost use Rattle.automaton.specs.inner.Evaluation.{nodeWord, Evaluated};
 use crate::bits::WORD_BITS;
 use crate::bits::test_bit;
 use crate::coordinates::coordinate;
+use crate::limits::ARGUMENT_UNIT;
+use reader::limits::FIELD_SIZE;
 use reader::limits::NODE_LIMIT;
 
 // All valuations.
@@ -73,9 +75,9 @@ pub(crate) fn evaluate(nodes: &[usize; NODE_LIMIT], count: usize, letter: u64) -
     let mut i: usize = 0;
     while i < count {
         let node = nodes[i];
-        let left = word_at(&words, less_one(node / 256 % 256));
+        let left = word_at(&words, less_one(node / FIELD_SIZE % FIELD_SIZE));
         let right = word_at(&words, less_one(i));
-        words[i] = node_word(node % 256, node / 65536, letter, left, right);
+        words[i] = node_word(node % FIELD_SIZE, node / ARGUMENT_UNIT, letter, left, right);
         i += 1;
     }
     words

@@ -1,5 +1,9 @@
 // The limits of the automaton layer, and the sizes that follow from them. specs/Limits.antt has the same ones for the contracts.
+use reader::limits::FIELD_SIZE;
 use reader::limits::OPERATOR_LIMIT;
+
+// What one of its argument counts in a node's word.
+pub const ARGUMENT_UNIT: usize = FIELD_SIZE * FIELD_SIZE;
 
 // Inputs at most, and outputs at most.
 pub const NAME_LIMIT: usize = 4;

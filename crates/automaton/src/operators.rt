@@ -6,7 +6,9 @@ ghost use Rattle.reader.specs.Formula.{Formula, operators};
 ghost use Rattle.automaton.specs.Bits.{one};
 ghost use Rattle.automaton.specs.inner.Representation.{Represents};
 ghost use Rattle.automaton.specs.inner.Coordinates.{isTemporalNode, coordinateOf, Located, placeCount};
+use crate::limits::ARGUMENT_UNIT;
 use crate::limits::PLACE_COUNT;
+use reader::limits::FIELD_SIZE;
 use reader::limits::NODE_LIMIT;
 
 // 1 for the node of a temporal operator, 0 for any other.
@@ -14,7 +16,7 @@ fn operator_bit(node: usize) -> u64
     ensures exact { λ r. ⌜ r ≡ one (isTemporalNode node) ⌝ }
     ensures small { λ r. ⌜ r < 2 ⌝ }
 {
-    let kind = node % 256;
+    let kind = node % FIELD_SIZE;
     if kind < 4 {
         return 0;
     }
@@ -30,7 +32,7 @@ fn operator_coordinate(node: usize) -> usize
     ensures small { λ r. ⌜ r < placeCount ⌝ }
 {
     if operator_bit(node) == 1 {
-        return node / 65536 % PLACE_COUNT;
+        return node / ARGUMENT_UNIT % PLACE_COUNT;
     }
     0
 }

@@ -17,6 +17,7 @@ use crate::evaluate::word_at;
 use crate::limits::COORDINATE_LIMIT;
 use crate::limits::PLACE_COUNT;
 use crate::operators::operator_nodes;
+use reader::limits::FIELD_SIZE;
 use reader::limits::NODE_LIMIT;
 
 // The number at k, or 0 where there is none.
@@ -47,7 +48,7 @@ fn owner_node(nodes: &[usize], places: &[usize], count: usize, j: usize) -> usiz
         return less_one(count);
     }
     let o = node_at(places, j);
-    owner_of(node_at(nodes, o) % 256, o)
+    owner_of(node_at(nodes, o) % FIELD_SIZE, o)
 }
 
 // The word of each coordinate: that of the node whose value it is.
@@ -139,7 +140,7 @@ fn end_bit(nodes: &[usize], places: &[usize], j: usize) -> u64
     if j == 0 {
         return 0;
     }
-    end_of(node_at(nodes, node_at(places, j)) % 256)
+    end_of(node_at(nodes, node_at(places, j)) % FIELD_SIZE)
 }
 
 // The end valuation, from the operators' nodes.

@@ -7,6 +7,7 @@ use mathlib.Core.Bool.{Bool, false, cond, _&&_, _||_}
 use mathlib.Core.List.{List}
 use lib.Dec.{eqb, leb}
 use lib.ListN.{getD}
+use Rattle.machine.specs.Letters.{Letter}
 use Rattle.reader.specs.Formula.{Formula, next, weak, always, release, operators}
 use Rattle.reader.specs.inner.Nodes.{unaryCode, binaryCode}
 use Rattle.automaton.specs.Limits.{vectorLimit}
@@ -65,6 +66,6 @@ endBit nodes places zero = false
 endBit nodes places (suc j) = endOf (nodeKind (getD nodes (getD places (suc j) 0) 0))
 
 -- the words of the coordinates make from each of the valuations the one that letter a makes from it: its coordinate j is bit v of word j
-unfoldable pub Makes : (φ : Formula) (a : ℕ) (words : List ℕ) → Type 0
+unfoldable pub Makes : (φ : Formula) (a : Letter) (words : List ℕ) → Type 0
 unfolding ofBits bit present
 Makes φ a words = (v : ℕ) → v < vectorLimit → ofBits (λ j. bit (getD words j 0) v) (suc (operators φ)) ≡ present φ a v

@@ -7,6 +7,7 @@ use mathlib.Core.List.{List}
 use lib.Bits.{bitAnd, bitOr, bitXor}
 use lib.Dec.{eqb}
 use lib.ListN.{getD}
+use Rattle.machine.specs.Letters.{Letter}
 use Rattle.reader.specs.Formula.{Formula, neg, next, weak, eventually, always, until, release, conj, disj}
 use Rattle.reader.specs.inner.Nodes.{constantCode, nameCode, unaryCode, binaryCode}
 use Rattle.automaton.specs.Limits.{vectorLimit}
@@ -19,7 +20,7 @@ abbrev pub allValuations : ℕ
 allValuations = 0xFFFF_FFFF_FFFF_FFFF
 
 -- a node's value for each of the valuations, from those of its operands
-unfoldable pub nodeWord : (kind argument a left right : ℕ) → ℕ
+unfoldable pub nodeWord : (kind argument : ℕ) (a : Letter) (left right : ℕ) → ℕ
 unfolding ofBits bit
 nodeWord kind argument a left right =
     cond (eqb kind (constantCode false)) 0
@@ -37,7 +38,7 @@ nodeWord kind argument a left right =
     (bitOr (bitXor left allValuations) right))))))))))))
 
 -- for each node below m that stands for a formula, the words hold the formula's value for each of the valuations
-unfoldable pub Evaluated : (nodes : List ℕ) (a : ℕ) (words : List ℕ) (m : ℕ) → Type 0
+unfoldable pub Evaluated : (nodes : List ℕ) (a : Letter) (words : List ℕ) (m : ℕ) → Type 0
 unfolding ofBits value
 Evaluated nodes a words m =
     (i : ℕ) → i < m → (k : ℕ) (φ : Formula) → Node nodes i k φ → getD words i 0 ≡ ofBits (λ v. value φ k a v) vectorLimit

@@ -1,23 +1,23 @@
 -- The nodes of a formula: the fields of a node's word, and which formula a node stands for. The words are those of the reader's
 -- specs/inner/Nodes.antt.
 -- Assumes nothing.
-use Prim.Native.Nat.{ℕ, suc, _+_, _/_, _%_}
+use Prim.Native.Nat.{ℕ, suc, _+_, _*_, _/_, _%_}
 use mathlib.Core.Path.{_≡_}
 use mathlib.Core.Bool.{Bool}
 use mathlib.Core.List.{List}
 use lib.ListN.{getD}
 use Rattle.reader.specs.Formula.{Unary, Binary, Formula, constant, name, unary, binary, size, withUnary, withBinary, operators}
-use Rattle.reader.specs.inner.Nodes.{constantCode, nameCode, unaryCode, binaryCode, wordOf}
+use Rattle.reader.specs.inner.Nodes.{constantCode, nameCode, unaryCode, binaryCode, fieldSize, wordOf}
 
 -- the fields of a node's word: its kind, one more than its left operand's node, and a name's number or an operator's coordinate
 abbrev pub nodeKind : ℕ → ℕ
-nodeKind w = w % 256
+nodeKind w = w % fieldSize
 
 abbrev pub leftOf : ℕ → ℕ
-leftOf w = w / 256 % 256
+leftOf w = w / fieldSize % fieldSize
 
 abbrev pub argumentOf : ℕ → ℕ
-argumentOf w = w / 65536
+argumentOf w = w / (fieldSize * fieldSize)
 
 -- node i stands for the formula, whose operators have the coordinates from k on
 pub data Node (nodes : List ℕ) : ℕ → ℕ → Formula → Type 0 where

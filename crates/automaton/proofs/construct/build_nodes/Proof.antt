@@ -5,7 +5,9 @@ use borrow.Author.Needs.{needs}
 use mathlib.Core.Path.{_≡_}
 use Prim.Native.Nat.{ℕ, suc, _+_, _≤_}
 use native.Mathlib.Omega.{arith}
+use Rattle.reader.specs.Limits.{nodeLimit}
 use Rattle.reader.specs.Formula.{Formula, operators}
+use Rattle.automaton.specs.Limits.{coordinateLimit}
 use Rattle.automaton.specs.inner.Representation.{Represents}
 use Rattle.automaton.proofs.construct.build_nodes.Statement.{statement}
 use Rattle.automaton.proofs.construct.build_nodes.Tie as tie
@@ -15,10 +17,10 @@ width-is : (c : tie.After-operator-count) (φ : Formula)
     → Represents (c .before .before .before .args .nodes .now) (c .before .before .before .args .count) φ → c .operator-count .result + 1 ≡ suc (operators φ)
 width-is c φ r = omega (arith, c .operator-count .ensures .0 φ r)
 
-narrow : (c : tie.After-operator-count) → c .operator-count .result + 1 ≤ 6
+narrow : (c : tie.After-operator-count) → c .operator-count .result + 1 ≤ coordinateLimit
 narrow c = let p = c .before .before .before .pre .0 in omega (arith, width-is c (p .0) (p .1), p .1 .few-operators)
 
-short : (c : tie.Start) → c .args .count ≤ 64
+short : (c : tie.Start) → c .args .count ≤ nodeLimit
 short c = let p = c .pre .0 in omega (arith, p .1 .count, p .1 .few-nodes)
 
 operator-count-requires : tie.Need-operator-count-requires

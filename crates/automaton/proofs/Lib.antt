@@ -20,5 +20,6 @@ pub mod OperatorLaws
 pub mod CoordinateLaws
 pub mod LoopLaws
 pub mod AlphabetLaws
+pub mod CountOfLaws
 pub mod OneAutomaton
 pub mod OneAnswer

@@ -6,10 +6,12 @@ use mathlib.Core.Path.{_≡_, refl, sym, ap, _∙_, subst}
 use mathlib.Core.Bool.{Bool, true, false, cond}
 use mathlib.Core.List.{List}
 use mathlib.Core.Logic.{_↔_, _⊎_, ⊎-elim}
+use lib.Dec.{ltb}
 use lib.Pow.{pow-pos}
 use Rattle.reader.specs.declared.reading.Reading.{Reading}
-use Rattle.reader.specs.declared.reading.Reading.the-variants.{Good, TooLong, Bad, TooManyNodes, TooManyOperators}
 use Rattle.reader.specs.declared.refusal.Refusal.{Refusal}
+use Rattle.reader.specs.declared.refusal.Refusal.the-variants.{Nothing, Alphabet, TextLength, Buffer, StateCount}
+use Rattle.reader.specs.Limits.{tooLong}
 use Rattle.reader.specs.Formula.{Formula}
 use Rattle.reader.specs.Marks.{ruleKind}
 use Rattle.reader.specs.Reading.{ReadingOf}
@@ -25,8 +27,10 @@ use Rattle.automaton.specs.declared.construct.Construction.the-variants.
 use Rattle.automaton.specs.Trace.{Satisfies}
 use Rattle.automaton.specs.Trial.{trialRefusal, Tried}
 use Rattle.automaton.specs.Condition.{maskOf, conditionRefusal, Conditioned}
-use Rattle.automaton.specs.Alphabet.{letterCount}
-use Rattle.automaton.specs.Construction.{CountOf, constructRefusal, Constructed}
+use Rattle.automaton.specs.Limits.{stateLimit}
+use Rattle.automaton.specs.Alphabet.{badAlphabet, letterCount}
+use Rattle.automaton.specs.Construction.{CountOf, shortAutomaton, constructRefusal, Constructed}
+use Rattle.automaton.proofs.CountOfLaws.{one-refusal}
 use Rattle.automaton.proofs.OneAutomaton.{one-automaton, one-refused}
 
 -- two tests that say whether the same holds are one
@@ -74,15 +78,13 @@ module _ {i : ℕ} {text : List ℕ} {r r′ : Assumption} (x : Conditioned i te
       ∙ sym (y .refused (λ z. e (same-condition-refusal ∙ z))))
       (refused-or-served (x .refusal))
 
--- where a rule is not good, its number of states does not matter; where it is, it has one
-one-refusal : (i o : ℕ) (text t a : List ℕ) (ρ : Reading) (n m : ℕ) → ReadingOf i (ruleKind i o) text ρ → CountOf i o text n → CountOf i o text m
+-- the rule's number of states does not matter
+one-count : (i o : ℕ) (text t a : List ℕ) (ρ : Reading) (n m : ℕ) → ReadingOf i (ruleKind i o) text ρ → CountOf i o text n → CountOf i o text m
     → constructRefusal i o text t a ρ n ≡ constructRefusal i o text t a ρ m
-unfolding ReadingOf constructRefusal
-one-refusal i o text t a (Good k) n m r c d = ap (constructRefusal i o text t a (Good k)) (c (r .0) (r .1) ∙ sym (d (r .0) (r .1)))
-one-refusal i o text t a TooLong n m r c d = refl
-one-refusal i o text t a (Bad k) n m r c d = refl
-one-refusal i o text t a TooManyNodes n m r c d = refl
-one-refusal i o text t a TooManyOperators n m r c d = refl
+unfolding constructRefusal
+one-count i o text t a ρ n m r c d =
+    ap (λ (x : Refusal). cond (badAlphabet i o) Alphabet (cond (tooLong text) TextLength (cond (shortAutomaton (letterCount i o) t a) Buffer x)))
+    (one-refusal i o text (λ k. cond (ltb stateLimit k) StateCount Nothing) ρ n m r c d)
 
 -- the answer to a refusal and a number of states
 abbrev answered : Refusal → ℕ → Construction
@@ -97,7 +99,7 @@ module _ {i o : ℕ} {text t a t₁ a₁ t₂ a₂ : List ℕ} {r r′ : Constru
   same-construction-refusal =
       x .first
       ∙ ap (λ (ρ : Reading). constructRefusal i o text t a ρ (x .states)) (one-reading i o true text (x .read) (y .read))
-      ∙ one-refusal i o text t a (y .reading) (x .states) (y .states) (y .read) (x .counted) (y .counted)
+      ∙ one-count i o text t a (y .reading) (x .states) (y .states) (y .read) (x .counted) (y .counted)
       ∙ sym (y .first)
 
   same-states : answered (x .refusal) (x .states) ≡ answered (x .refusal) (y .states)

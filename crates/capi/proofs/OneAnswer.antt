@@ -3,12 +3,12 @@
 -- Assumes nothing.
 use Prim.Native.Nat.{ℕ, _^_}
 use mathlib.Core.Path.{_≡_, sym, ap, _∙_, subst, subst₂}
-use mathlib.Core.Bool.{Bool}
 use mathlib.Core.List.{List}
 use Rattle.automaton.specs.Trial.{trialNumber, trialPlace}
 use Rattle.automaton.proofs.OneAnswer.{one-trial}
 use Rattle.game.specs.declared.follow.Followed.{Followed}
 use Rattle.game.specs.Answer.{answerNumber, answerPlace, answerStates}
+use Rattle.plays.specs.declared.mode.Mode.{Mode}
 use Rattle.plays.specs.Arena.{arena}
 use Rattle.game.specs.Rule.{Buffers}
 use Rattle.game.specs.Agreement.{TablesAfter}
@@ -23,8 +23,8 @@ numbers : {A : Type 0} {a b : A} {k m : ℕ} (f : A → ℕ) → a ≡ b → k �
 numbers f e p q = p ∙ ap f e ∙ sym q
 
 -- two runs of `airtable_solve_rule` agree
-pub one-solve-rule : {fair : Bool} (i : ℕ) {o : ℕ} {rule condition : List ℕ} {old new new′ : Buffers} {number can n place number′ can′ n′ place′ : ℕ}
-    → RuleWritten fair i o rule condition old new number can n place → RuleWritten fair i o rule condition old new′ number′ can′ n′ place′
+pub one-solve-rule : {mode : Mode} (i : ℕ) {o : ℕ} {rule condition : List ℕ} {old new new′ : Buffers} {number can n place number′ can′ n′ place′ : ℕ}
+    → RuleWritten mode i o rule condition old new number can n place → RuleWritten mode i o rule condition old new′ number′ can′ n′ place′
     → RuleWrittenAgree (2 ^ i) new new′ number can n place number′ can′ n′ place′
 one-solve-rule i {new = new} {new′ = new′} x y =
     let w = one-rule (x .solved) (y .solved) in
@@ -39,9 +39,9 @@ one-solve-rule i {new = new} {new′ = new′} x y =
     }
 
 -- two runs of `airtable_solve_given` agree
-pub one-solve-given : {fair : Bool} (i o : ℕ) {start n : ℕ} {transitions accepting : List ℕ} {mask : ℕ} {σ₀ τ₀ σ τ σ′ τ′ : List ℕ} {number can place number′ can′ place′ : ℕ}
-    → GivenWritten fair i o start (arena i o n transitions accepting mask) σ₀ τ₀ σ τ number can place
-    → GivenWritten fair i o start (arena i o n transitions accepting mask) σ₀ τ₀ σ′ τ′ number′ can′ place′
+pub one-solve-given : {mode : Mode} (i o : ℕ) {start n : ℕ} {transitions accepting : List ℕ} {mask : ℕ} {σ₀ τ₀ σ τ σ′ τ′ : List ℕ} {number can place number′ can′ place′ : ℕ}
+    → GivenWritten mode i o start (arena i o n transitions accepting mask) σ₀ τ₀ σ τ number can place
+    → GivenWritten mode i o start (arena i o n transitions accepting mask) σ₀ τ₀ σ′ τ′ number′ can′ place′
     → GivenWrittenAgree n (2 ^ i) σ τ σ′ τ′ number can place number′ can′ place′
 one-solve-given i o {n = n} {σ = σ} {τ = τ} {σ′ = σ′} {τ′ = τ′} x y =
     let w = one-given i o (x .solved) (y .solved) in

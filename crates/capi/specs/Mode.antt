@@ -3,10 +3,12 @@
 use Prim.Native.Nat.{ℕ}
 use mathlib.Core.Bool.{Bool, not, cond}
 use lib.Dec.{eqb}
+use Rattle.plays.specs.declared.mode.Mode.{Mode}
+use Rattle.plays.specs.declared.mode.Mode.the-variants.{Fair, Stable}
 
 -- a mode is stable at 1, and fair at any other number
-abbrev pub fairAt : ℕ → Bool
-fairAt mode = not (eqb mode 1)
+abbrev pub modeAt : ℕ → Mode
+modeAt mode = cond (eqb mode 1) Stable Fair
 
 -- a number is true unless it is 0
 abbrev pub truthOf : ℕ → Bool

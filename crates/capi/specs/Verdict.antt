@@ -2,8 +2,8 @@
 -- Assumes nothing.
 use Prim.Native.Nat.{ℕ}
 use mathlib.Core.Path.{_≡_}
-use mathlib.Core.Bool.{Bool}
 use mathlib.Core.List.{List}
+use Rattle.plays.specs.declared.mode.Mode.{Mode}
 use Rattle.game.specs.declared.answer.Answer.{Answer}
 use Rattle.game.specs.declared.answer.Answer.the-variants.{Can, Cannot, Refused}
 use Rattle.game.specs.Answer.{answerNumber, answerPlace, answerStates}
@@ -18,18 +18,18 @@ canFlag (Cannot n) = 0
 canFlag (Refused x) = 0
 
 -- the rule call: the library's answer, and the four numbers of it
-pub record RuleWritten (fair : Bool) (i o : ℕ) (rule condition : List ℕ) (old new : Buffers) (number can n place : ℕ) : Type 0 where
+pub record RuleWritten (mode : Mode) (i o : ℕ) (rule condition : List ℕ) (old new : Buffers) (number can n place : ℕ) : Type 0 where
   pub answer : Answer
-  pub solved : RuleSolved fair i o rule condition old new answer
+  pub solved : RuleSolved mode i o rule condition old new answer
   pub number-of : number ≡ answerNumber answer
   pub can-of : can ≡ canFlag answer
   pub n-of : n ≡ answerStates answer
   pub place-of : place ≡ answerPlace answer
 
 -- the call for a given automaton: the library's answer, and the three numbers of it
-pub record GivenWritten (fair : Bool) (i o start : ℕ) (G : Arena) (σ₀ τ₀ σ τ : List ℕ) (number can place : ℕ) : Type 0 where
+pub record GivenWritten (mode : Mode) (i o start : ℕ) (G : Arena) (σ₀ τ₀ σ τ : List ℕ) (number can place : ℕ) : Type 0 where
   pub answer : Answer
-  pub solved : GivenSolved fair i o start G σ₀ τ₀ σ τ answer
+  pub solved : GivenSolved mode i o start G σ₀ τ₀ σ τ answer
   pub number-of : number ≡ answerNumber answer
   pub can-of : can ≡ canFlag answer
   pub place-of : place ≡ answerPlace answer

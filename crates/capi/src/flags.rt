@@ -1,12 +1,11 @@
 // Modes and truth values as C writes them.
 ghost use mathlib.Core.Path.{_≡_};
-ghost use Rattle.plays.specs.Arena.{isFair};
-ghost use Rattle.capi.specs.Mode.{fairAt, truthOf, flagOf};
+ghost use Rattle.capi.specs.Mode.{modeAt, truthOf, flagOf};
 use plays::mode::Mode;
 
 // The mode at a number: stable at 1, and fair at any other.
 pub(crate) fn mode_at(mode: u8) -> Mode
-    ensures { λ r. ⌜ isFair r ≡ fairAt mode ⌝ }
+    ensures { λ r. ⌜ r ≡ modeAt mode ⌝ }
 {
     if mode == 1 {
         return Mode::Stable;

@@ -7,7 +7,7 @@ mod verdict;
 ghost use Rattle.plays.specs.Arena.{arena};
 ghost use Rattle.game.specs.Rule.{buffers};
 ghost use Rattle.game.specs.Follower.{followed};
-ghost use Rattle.capi.specs.Mode.{fairAt};
+ghost use Rattle.capi.specs.Mode.{modeAt};
 ghost use Rattle.capi.specs.Verdict.{RuleWritten, GivenWritten};
 ghost use Rattle.capi.specs.Step.{positionOf, StepWritten};
 ghost use Rattle.capi.specs.Trial.{TrialWritten};
@@ -47,7 +47,7 @@ pub extern "C" fn airtable_solve_rule(
     n: &mut usize,
     place: &mut usize,
 ) -> u8
-    ensures { λ r. ⌜ RuleWritten (fairAt mode) i o (now (rule .entry)) (now (condition .entry)) (buffers (now (moves .entry)) (now (marks .entry)) (now (station .entry)) (now (outside .entry))) (buffers (now (moves .exit)) (now (marks .exit)) (now (station .exit)) (now (outside .exit))) r (now (can .exit)) (now (n .exit)) (now (place .exit)) ⌝ }
+    ensures { λ r. ⌜ RuleWritten (modeAt mode) i o (now (rule .entry)) (now (condition .entry)) (buffers (now (moves .entry)) (now (marks .entry)) (now (station .entry)) (now (outside .entry))) (buffers (now (moves .exit)) (now (marks .exit)) (now (station .exit)) (now (outside .exit))) r (now (can .exit)) (now (n .exit)) (now (place .exit)) ⌝ }
 {
     let answer = solve_rule(
         i,
@@ -82,7 +82,7 @@ pub extern "C" fn airtable_solve_given(
     can: &mut u8,
     place: &mut usize,
 ) -> u8
-    ensures { λ r. ⌜ GivenWritten (fairAt mode) i o start (arena i o n (now (moves .entry)) (now (marks .entry)) mask) (now (station .entry)) (now (outside .entry)) (now (station .exit)) (now (outside .exit)) r (now (can .exit)) (now (place .exit)) ⌝ }
+    ensures { λ r. ⌜ GivenWritten (modeAt mode) i o start (arena i o n (now (moves .entry)) (now (marks .entry)) mask) (now (station .entry)) (now (outside .entry)) (now (station .exit)) (now (outside .exit)) r (now (can .exit)) (now (place .exit)) ⌝ }
 {
     let answer = solve_given(
         i,

@@ -7,8 +7,9 @@ use Prim.Native.Nat.{ℕ}
 use native.Mathlib.Omega.{arith}
 use lib.Dec.{ltb, leb}
 use borrow.Author.Tests.{ltb-true, ltb-false, leb-true, leb-false}
+use Rattle.game.specs.inner.Limits.{rankLimit}
 use Rattle.plays.specs.Arena.{Arena}
-use Rattle.game.specs.inner.Solver.{everyRank, rankedBelow, Unranked, Apart, FirstUnserved, Attracted}
+use Rattle.game.specs.inner.Solver.{rankedBelow, Unranked, Apart, FirstUnserved, Attracted}
 use Rattle.reader.proofs.BoolLaws.{on}
 use Rattle.game.proofs.LimitLaws.{ranked-below, none-below}
 use Rattle.game.proofs.ServingLaws.{all-served, one-unserved}
@@ -19,17 +20,17 @@ attracted-not h = record { gains = λ e. absurd (mathlib.Core.Bool.false≢true 
 
 -- no state is ranked both ways
 module _ (outer inner : List ℕ) (p : ℕ) (apart : Apart outer inner) (t : ℕ) where
-  not-outer : rankedBelow p inner t ≡ true → rankedBelow everyRank outer t ≡ false
+  not-outer : rankedBelow p inner t ≡ true → rankedBelow rankLimit outer t ≡ false
   not-outer e =
       let i = ranked-below p inner t e in
-      on (rankedBelow everyRank outer t) (λ w. let o = apart t (ranked-below everyRank outer t w .0) in absurd (let z : ⊥ = omega arith in z)) (λ w. w)
+      on (rankedBelow rankLimit outer t) (λ w. let o = apart t (ranked-below rankLimit outer t w .0) in absurd (let z : ⊥ = omega arith in z)) (λ w. w)
 
-  not-inner : rankedBelow everyRank outer t ≡ true → rankedBelow p inner t ≡ false
-  not-inner e = none-below p inner t (apart t (ranked-below everyRank outer t e .0))
+  not-inner : rankedBelow rankLimit outer t ≡ true → rankedBelow p inner t ≡ false
+  not-inner e = none-below p inner t (apart t (ranked-below rankLimit outer t e .0))
 
 module _ {fair : Bool} {G : Arena} {outer inner : List ℕ} {p s r : ℕ} (apart : Apart outer inner) (un : Unranked outer inner s) where
   -- fair: the environment attracts where some input is unserved
-  pub attracted-fair : fair ≡ true → FirstUnserved G (rankedBelow everyRank outer) (rankedBelow p inner) s r → Attracted fair G outer inner p s (ltb r (G .inputs))
+  pub attracted-fair : fair ≡ true → FirstUnserved G (rankedBelow rankLimit outer) (rankedBelow p inner) s r → Attracted fair G outer inner p s (ltb r (G .inputs))
   attracted-fair e u =
       subst (λ (f : Bool). Attracted f G outer inner p s (ltb r (G .inputs))) (sym e)
       (record {
@@ -38,7 +39,7 @@ module _ {fair : Bool} {G : Arena} {outer inner : List ℕ} {p s r : ℕ} (apart
       })
 
   -- stable: the system attracts where every input is served
-  pub attracted-stable : fair ≡ false → FirstUnserved G (rankedBelow p inner) (rankedBelow everyRank outer) s r → Attracted fair G outer inner p s (leb (G .inputs) r)
+  pub attracted-stable : fair ≡ false → FirstUnserved G (rankedBelow p inner) (rankedBelow rankLimit outer) s r → Attracted fair G outer inner p s (leb (G .inputs) r)
   attracted-stable e u =
       subst (λ (f : Bool). Attracted f G outer inner p s (leb (G .inputs) r)) (sym e)
       (record {

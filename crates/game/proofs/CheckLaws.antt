@@ -7,20 +7,22 @@ use lib.Dec.{eqb, ltb}
 use lib.ListN.{length}
 use lib.Pow.{pow-mono, pow-pos}
 use borrow.Author.Tests.{ltb-false}
+use Rattle.game.specs.inner.Limits.{nameLimit, numberLimit}
+use Rattle.automaton.specs.Limits.{stateLimit}
 use Rattle.automaton.specs.Alphabet.{badAlphabet}
 use Rattle.automaton.proofs.AlphabetLaws.{inputs-fit, outputs-fit}
 use Rattle.plays.specs.Arena.{Arena}
-use Rattle.game.specs.inner.Checks.{gameOf, InRange}
+use Rattle.game.specs.inner.Checks.{sizesOf, InRange}
 use Rattle.game.specs.Given.{badCount, moveCount, shortRead}
 use Rattle.reader.proofs.BoolLaws.{or-left, or-right}
 
-pub small-power : (k : ℕ) → k ≤ 4 → 2 ^ k ≤ 16
-small-power k h = pow-mono {j = 4} h
+pub small-power : (k : ℕ) → k ≤ nameLimit → 2 ^ k ≤ numberLimit
+small-power k h = pow-mono {j = nameLimit} h
 
-pub in-range : (fair : Bool) (mask n i o : ℕ) → badAlphabet i o ≡ false → badCount n ≡ false → InRange (gameOf fair mask n i o)
-in-range fair mask n i o a b =
+pub in-range : (n i o : ℕ) → badAlphabet i o ≡ false → badCount n ≡ false → InRange (sizesOf n i o)
+in-range n i o a b =
     record {
-      states-fit = ltb-false 128 n (or-right (eqb n 0) (ltb 128 n) b);
+      states-fit = ltb-false stateLimit n (or-right (eqb n 0) (ltb stateLimit n) b);
       inputs-fit = small-power i (inputs-fit i o a);
       outputs-fit = small-power o (outputs-fit i o a);
       inputs-some = pow-pos i;

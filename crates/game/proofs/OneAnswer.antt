@@ -3,23 +3,25 @@
 -- Assumes nothing.
 use Prim.Native.Nat.{ℕ, _+_, _*_, _/_, _%_, _^_, _<_, _≤_}
 use mathlib.Core.Path.{_≡_, refl, sym, ap, ap₂, _∙_, subst}
-use mathlib.Core.Bool.{Bool, true, false}
+use mathlib.Core.Bool.{Bool, true, false, cond, _||_}
 use mathlib.Core.List.{List}
 use mathlib.Core.Logic.{_↔_, _⊎_, ⊎-elim}
 use native.Mathlib.Nat.{mod-lt, div-add-mod', mul-le-mul-right}
 use native.Mathlib.Omega.{arith}
 use lib.Dec.{eqb, ltb}
 use lib.ListN.{length, getD}
-use lib.Pow.{pow-pos, pow-mono}
+use lib.Pow.{pow-pos}
 use borrow.Author.Tests.{eq-eqb, ne-eqb, ltb-true, ltb-false}
+use Rattle.game.proofs.CheckLaws.{small-power}
+use Rattle.game.specs.inner.Limits.{numberLimit}
 use Rattle.reader.specs.declared.reading.Reading.{Reading}
-use Rattle.reader.specs.declared.reading.Reading.the-variants.{Good, TooLong, Bad, TooManyNodes, TooManyOperators}
 use Rattle.reader.specs.declared.refusal.Refusal.{Refusal}
-use Rattle.reader.specs.declared.refusal.Refusal.the-variants.{Nothing, Alphabet}
+use Rattle.reader.specs.declared.refusal.Refusal.the-variants.{Nothing, Alphabet, TextLength, Buffer, StateCount}
+use Rattle.reader.specs.Limits.{tooLong}
 use Rattle.reader.specs.Formula.{Formula}
 use Rattle.reader.specs.Marks.{ruleKind}
 use Rattle.reader.specs.Reading.{ReadingOf}
-use Rattle.reader.specs.Refusal.{numberOf}
+use Rattle.reader.specs.Refusal.{numberOf, afterCondition}
 use Rattle.reader.proofs.BoolLaws.{on, clash}
 use Rattle.reader.proofs.RefusalLaws.{something, refused-or-served}
 use Rattle.reader.proofs.Unambiguous.{one-formula, one-reading}
@@ -28,17 +30,19 @@ use Rattle.automaton.specs.Alphabet.{badAlphabet, letterCount}
 use Rattle.automaton.specs.Construction.{CountOf}
 use Rattle.automaton.specs.Condition.{maskOf}
 use Rattle.automaton.proofs.AlphabetLaws.{inputs-fit, outputs-fit}
+use Rattle.automaton.proofs.CountOfLaws.{one-refusal}
 use Rattle.automaton.proofs.OneAutomaton.{one-automaton, one-refused}
 use Rattle.game.specs.declared.answer.Answer.{Answer}
 use Rattle.game.specs.declared.answer.Answer.the-variants.{Refused}
 use Rattle.game.specs.declared.follow.Position.{Position}
 use Rattle.game.specs.declared.follow.Followed.{Followed}
 use Rattle.game.specs.Answer.{answerNumber, answerStates, verdictOf}
-use Rattle.plays.specs.Arena.{Arena, arena}
+use Rattle.plays.specs.declared.mode.Mode.{Mode}
+use Rattle.plays.specs.Arena.{Player, Arena, arena}
 use Rattle.plays.specs.Strategy.{environmentByte, SystemWins, EnvironmentWins}
 use Rattle.game.specs.Tables.{noMove, SystemState, EnvironmentState, Tables, Verdict}
 use Rattle.game.specs.Given.{givenRefusal, GivenSolved}
-use Rattle.game.specs.Rule.{Buffers, ruleRefusal, RuleSolved}
+use Rattle.game.specs.Rule.{Buffers, shortBuffers, ruleRefusal, RuleSolved}
 use Rattle.game.specs.Follower.{FollowedBy}
 use Rattle.game.specs.Agreement.{isNoMove, Free, TableAgrees, TablesAgree, TablesAfter, GivenAgree, RuleAgree}
 use Rattle.game.proofs.AnswerLaws.{verdict-states}
@@ -48,11 +52,11 @@ use Rattle.plays.proofs.Determined.{one-winner}
 -- ---- one verdict, and tables that agree
 
 -- a state has one winner, by whatever tables
-one-verdict : (fair : Bool) (G : Arena) (σ τ σ′ τ′ : List ℕ) (s : ℕ) (c c′ : Bool) → Verdict fair G σ τ s c → Verdict fair G σ′ τ′ s c′ → c ≡ c′
-one-verdict fair G σ τ σ′ τ′ s true true v w = refl
-one-verdict fair G σ τ σ′ τ′ s true false v w = absurd (one-winner fair G σ τ′ s (v .system refl .wins) (w .environment refl .wins))
-one-verdict fair G σ τ σ′ τ′ s false true v w = absurd (one-winner fair G σ′ τ s (w .system refl .wins) (v .environment refl .wins))
-one-verdict fair G σ τ σ′ τ′ s false false v w = refl
+one-verdict : (mode : Mode) (G : Arena) (σ τ σ′ τ′ : List ℕ) (s : ℕ) (c c′ : Bool) → Verdict mode G σ τ s c → Verdict mode G σ′ τ′ s c′ → c ≡ c′
+one-verdict mode G σ τ σ′ τ′ s true true v w = refl
+one-verdict mode G σ τ σ′ τ′ s true false v w = absurd (one-winner mode G σ τ′ s (v .system refl .wins) (w .environment refl .wins))
+one-verdict mode G σ τ σ′ τ′ s false true v w = absurd (one-winner mode G σ′ τ s (w .system refl .wins) (v .environment refl .wins))
+one-verdict mode G σ τ σ′ τ′ s false false v w = refl
 
 -- a byte is free and good in both runs, or it is the same
 abbrev FreeOrSame : (ℕ → Type 0) → List ℕ → List ℕ → ℕ → Type 0
@@ -70,30 +74,30 @@ table-agrees free t t′ l h =
     }
 
 -- the free bytes are the winner's: of the tables that are handed out, the environment's has 255 exactly where the system wins
-module _ (fair : Bool) (G : Arena) (few-inputs : G .inputs ≤ noMove) (σ₀ τ₀ σ τ : List ℕ) (x : Tables fair G σ₀ τ₀ σ τ) (s : ℕ) where
-  pub system-free : Free (G .states) τ true s ↔ ((s < G .states) × SystemWins fair G σ s)
+module _ (mode : Mode) (G : Arena) (few-inputs : G .inputs ≤ noMove) (σ₀ τ₀ σ τ : List ℕ) (x : Tables mode G σ₀ τ₀ σ τ) (s : ℕ) where
+  pub system-free : Free (G .states) τ Player.system s ↔ ((s < G .states) × SystemWins mode G σ s)
   system-free = (
     λ f. (f .0, ⊎-elim (λ w. w .wins) (λ w. let b = w .byte in clash (isNoMove τ s) (f .1) (has-move τ s (omega arith))) (x .won s (f .0))),
-    λ f. (f .0, ⊎-elim (λ w. eq-eqb (environmentByte τ s) noMove (w .other)) (λ w. absurd (one-winner fair G σ τ s (f .1) (w .wins))) (x .won s (f .0))),
+    λ f. (f .0, ⊎-elim (λ w. eq-eqb (environmentByte τ s) noMove (w .other)) (λ w. absurd (one-winner mode G σ τ s (f .1) (w .wins))) (x .won s (f .0))),
   )
 
-  pub environment-free : Free (G .states) τ false s ↔ ((s < G .states) × EnvironmentWins fair G τ s)
+  pub environment-free : Free (G .states) τ Player.environment s ↔ ((s < G .states) × EnvironmentWins mode G τ s)
   environment-free = (
     λ f. (f .0, ⊎-elim (λ w. clash (isNoMove τ s) (eq-eqb (environmentByte τ s) noMove (w .other)) (f .1)) (λ w. w .wins) (x .won s (f .0))),
-    λ f. (f .0, ⊎-elim (λ w. absurd (one-winner fair G σ τ s (w .wins) (f .1))) (λ w. let b = w .byte in has-move τ s (omega arith)) (x .won s (f .0))),
+    λ f. (f .0, ⊎-elim (λ w. absurd (one-winner mode G σ τ s (w .wins) (f .1))) (λ w. let b = w .byte in has-move τ s (omega arith)) (x .won s (f .0))),
   )
 
-module _ (fair : Bool) (G : Arena) (few-inputs : G .inputs ≤ noMove) (few-outputs : G .outputs ≤ noMove) (some : 0 < G .inputs) (σ₀ τ₀ σ τ σ′ τ′ : List ℕ)
-    (x : Tables fair G σ₀ τ₀ σ τ) (y : Tables fair G σ₀ τ₀ σ′ τ′) where
+module _ (mode : Mode) (G : Arena) (few-inputs : G .inputs ≤ noMove) (few-outputs : G .outputs ≤ noMove) (some : 0 < G .inputs) (σ₀ τ₀ σ τ σ′ τ′ : List ℕ)
+    (x : Tables mode G σ₀ τ₀ σ τ) (y : Tables mode G σ₀ τ₀ σ′ τ′) where
   -- a state below n has the same winner in both runs
-  same-winner : (s : ℕ) → s < G .states → (SystemState fair G σ τ s × SystemState fair G σ′ τ′ s) ⊎ (EnvironmentState fair G σ τ s × EnvironmentState fair G σ′ τ′ s)
+  same-winner : (s : ℕ) → s < G .states → (SystemState mode G σ τ s × SystemState mode G σ′ τ′ s) ⊎ (EnvironmentState mode G σ τ s × EnvironmentState mode G σ′ τ′ s)
   same-winner s h =
       ⊎-elim
-      (λ u. ⊎-elim (λ v. _⊎_.inl (u, v)) (λ v. absurd (one-winner fair G σ τ′ s (u .wins) (v .wins))) (y .won s h))
-      (λ u. ⊎-elim (λ v. absurd (one-winner fair G σ′ τ s (v .wins) (u .wins))) (λ v. _⊎_.inr (u, v)) (y .won s h))
+      (λ u. ⊎-elim (λ v. _⊎_.inl (u, v)) (λ v. absurd (one-winner mode G σ τ′ s (u .wins) (v .wins))) (y .won s h))
+      (λ u. ⊎-elim (λ v. absurd (one-winner mode G σ′ τ s (v .wins) (u .wins))) (λ v. _⊎_.inr (u, v)) (y .won s h))
       (x .won s h)
 
-  system-byte : (s a : ℕ) → a < G .inputs → FreeOrSame (λ k. Free (G .states) τ true s) σ σ′ (s * G .inputs + a)
+  system-byte : (s a : ℕ) → a < G .inputs → FreeOrSame (λ k. Free (G .states) τ Player.system s) σ σ′ (s * G .inputs + a)
   system-byte s a h =
       on (ltb s (G .states))
       (λ e.
@@ -108,7 +112,7 @@ module _ (fair : Bool) (G : Arena) (few-inputs : G .inputs ≤ noMove) (few-outp
       let m : stateLimit * G .inputs ≤ s * G .inputs + a = omega (arith, mul-le-mul-right (G .inputs) (ltb-false s stateLimit f)) in
       x .system-beyond (s * G .inputs + a) m ∙ sym (y .system-beyond (s * G .inputs + a) m))))
 
-  environment-byte : (s : ℕ) → FreeOrSame (Free (G .states) τ false) τ τ′ s
+  environment-byte : (s : ℕ) → FreeOrSame (Free (G .states) τ Player.environment) τ τ′ s
   environment-byte s =
       on (ltb s (G .states))
       (λ e.
@@ -125,18 +129,18 @@ module _ (fair : Bool) (G : Arena) (few-inputs : G .inputs ≤ noMove) (few-outp
   tables-agree : TablesAgree (G .states) (G .inputs) σ τ σ′ τ′
   tables-agree =
       record {
-        system = table-agrees (λ k. Free (G .states) τ true (k / G .inputs)) σ σ′ (x .system-size ∙ sym (y .system-size))
-            (λ k. subst (λ (j : ℕ). FreeOrSame (λ b. Free (G .states) τ true (k / G .inputs)) σ σ′ j) (div-add-mod' k (G .inputs))
+        system = table-agrees (λ k. Free (G .states) τ Player.system (k / G .inputs)) σ σ′ (x .system-size ∙ sym (y .system-size))
+            (λ k. subst (λ (j : ℕ). FreeOrSame (λ b. Free (G .states) τ Player.system (k / G .inputs)) σ σ′ j) (div-add-mod' k (G .inputs))
             (system-byte (k / G .inputs) (k % G .inputs) (mod-lt k some)));
-        environment = table-agrees (Free (G .states) τ false) τ τ′ (x .environment-size ∙ sym (y .environment-size)) environment-byte;
+        environment = table-agrees (Free (G .states) τ Player.environment) τ τ′ (x .environment-size ∙ sym (y .environment-size)) environment-byte;
       }
 
 -- tables that are the same agree
 tables-same : (n inputs : ℕ) (σ τ σ′ τ′ : List ℕ) → σ ≡ σ′ → τ ≡ τ′ → TablesAgree n inputs σ τ σ′ τ′
 tables-same n inputs σ τ σ′ τ′ e f =
     record {
-      system = subst (λ (t : List ℕ). TableAgrees (λ k. Free n τ true (k / inputs)) σ t) e (record { size = refl; rows = λ k. refl; bytes = λ k z. refl });
-      environment = subst (λ (t : List ℕ). TableAgrees (Free n τ false) τ t) f (record { size = refl; rows = λ k. refl; bytes = λ k z. refl });
+      system = subst (λ (t : List ℕ). TableAgrees (λ k. Free n τ Player.system (k / inputs)) σ t) e (record { size = refl; rows = λ k. refl; bytes = λ k z. refl });
+      environment = subst (λ (t : List ℕ). TableAgrees (Free n τ Player.environment) τ t) f (record { size = refl; rows = λ k. refl; bytes = λ k z. refl });
     }
 
 -- after a verdict, and after a refusal
@@ -154,8 +158,8 @@ one-follow u v = u .answer ∙ sym (v .answer)
 
 -- ---- the call for a given automaton
 
-module _ {fair : Bool} (i o : ℕ) {start n : ℕ} {transitions accepting : List ℕ} {mask : ℕ} {σ₀ τ₀ σ τ σ′ τ′ : List ℕ} {r r′ : Answer}
-    (x : GivenSolved fair i o start (arena i o n transitions accepting mask) σ₀ τ₀ σ τ r) (y : GivenSolved fair i o start (arena i o n transitions accepting mask) σ₀ τ₀ σ′ τ′ r′) where
+module _ {mode : Mode} (i o : ℕ) {start n : ℕ} {transitions accepting : List ℕ} {mask : ℕ} {σ₀ τ₀ σ τ σ′ τ′ : List ℕ} {r r′ : Answer}
+    (x : GivenSolved mode i o start (arena i o n transitions accepting mask) σ₀ τ₀ σ τ r) (y : GivenSolved mode i o start (arena i o n transitions accepting mask) σ₀ τ₀ σ′ τ′ r′) where
   abbrev given-first : Refusal
   given-first = givenRefusal i o start (arena i o n transitions accepting mask) σ₀ τ₀
 
@@ -166,12 +170,12 @@ module _ {fair : Bool} (i o : ℕ) {start n : ℕ} {transitions accepting : List
       let u = x .served z in
       let v = y .served z in
       let a = passed (badAlphabet i o) Alphabet _ (omega arith) z .0 in
-      let few : 2 ^ i ≤ 16 = pow-mono {j = 4} (inputs-fit i o a) in
-      let few′ : 2 ^ o ≤ 16 = pow-mono {j = 4} (outputs-fit i o a) in
+      let few : 2 ^ i ≤ numberLimit = small-power i (inputs-fit i o a) in
+      let few′ : 2 ^ o ≤ numberLimit = small-power o (outputs-fit i o a) in
       record {
-        answer = u .1 ∙ ap (λ (c : Bool). verdictOf c n) (one-verdict fair G σ τ σ′ τ′ start (u .0) (v .0) (u .3) (v .3)) ∙ sym (v .1);
+        answer = u .1 ∙ ap (λ (c : Bool). verdictOf c n) (one-verdict mode G σ τ σ′ τ′ start (u .0) (v .0) (u .3) (v .3)) ∙ sym (v .1);
         tables = after-verdict _ n (2 ^ i) σ τ σ′ τ′ (x .number ∙ ap numberOf z)
-            (tables-agree fair G (omega arith) (omega arith) (pow-pos i) σ₀ τ₀ σ τ σ′ τ′ (u .2) (v .2));
+            (tables-agree mode G (omega arith) (omega arith) (pow-pos i) σ₀ τ₀ σ τ σ′ τ′ (u .2) (v .2));
       }
 
   given-refused : (given-first ≡ Nothing → ⊥) → GivenAgree n (2 ^ i) σ τ σ′ τ′ r r′
@@ -187,32 +191,30 @@ module _ {fair : Bool} (i o : ℕ) {start n : ℕ} {transitions accepting : List
   given-agrees = ⊎-elim given-served (λ z. given-refused (something given-first z)) (refused-or-served given-first)
 
 -- two runs of the call for a given automaton agree
-pub one-given : {fair : Bool} (i o : ℕ) {start n : ℕ} {transitions accepting : List ℕ} {mask : ℕ} {σ₀ τ₀ σ τ σ′ τ′ : List ℕ} {r r′ : Answer}
-    → GivenSolved fair i o start (arena i o n transitions accepting mask) σ₀ τ₀ σ τ r → GivenSolved fair i o start (arena i o n transitions accepting mask) σ₀ τ₀ σ′ τ′ r′
+pub one-given : {mode : Mode} (i o : ℕ) {start n : ℕ} {transitions accepting : List ℕ} {mask : ℕ} {σ₀ τ₀ σ τ σ′ τ′ : List ℕ} {r r′ : Answer}
+    → GivenSolved mode i o start (arena i o n transitions accepting mask) σ₀ τ₀ σ τ r → GivenSolved mode i o start (arena i o n transitions accepting mask) σ₀ τ₀ σ′ τ′ r′
     → GivenAgree n (2 ^ i) σ τ σ′ τ′ r r′
 one-given i o x y = given-agrees i o x y
 
 -- ---- the rule call
 
--- where a rule is not good, its number of states does not matter; where it is, it has one
-one-refusal : (i o : ℕ) (rule condition : List ℕ) (old : Buffers) (ρ κ : Reading) (n m : ℕ) → ReadingOf i (ruleKind i o) rule ρ → CountOf i o rule n → CountOf i o rule m
-    → ruleRefusal i o rule condition old ρ κ n ≡ ruleRefusal i o rule condition old ρ κ m
-unfolding ReadingOf ruleRefusal
-one-refusal i o rule condition old (Good k) κ n m r c d = ap (ruleRefusal i o rule condition old (Good k) κ) (c (r .0) (r .1) ∙ sym (d (r .0) (r .1)))
-one-refusal i o rule condition old TooLong κ n m r c d = refl
-one-refusal i o rule condition old (Bad k) κ n m r c d = refl
-one-refusal i o rule condition old TooManyNodes κ n m r c d = refl
-one-refusal i o rule condition old TooManyOperators κ n m r c d = refl
+-- the rule's number of states does not matter
+one-count : (i o : ℕ) (rule condition : List ℕ) (old : Buffers) (ρ κ : Reading) (n m : ℕ) → ReadingOf i (ruleKind i o) rule ρ
+    → CountOf i o rule n → CountOf i o rule m → ruleRefusal i o rule condition old ρ κ n ≡ ruleRefusal i o rule condition old ρ κ m
+unfolding ruleRefusal
+one-count i o rule condition old ρ κ n m r c d =
+    ap (λ (x : Refusal). cond (badAlphabet i o) Alphabet (cond (tooLong rule || tooLong condition) TextLength (cond (shortBuffers i o old) Buffer x)))
+    (one-refusal i o rule (λ k. afterCondition κ (cond (ltb stateLimit k) StateCount Nothing)) ρ n m r c d)
 
-module _ {fair : Bool} {i o : ℕ} {rule condition : List ℕ} {old new new′ : Buffers} {r r′ : Answer}
-    (x : RuleSolved fair i o rule condition old new r) (y : RuleSolved fair i o rule condition old new′ r′) where
+module _ {mode : Mode} {i o : ℕ} {rule condition : List ℕ} {old new new′ : Buffers} {r r′ : Answer}
+    (x : RuleSolved mode i o rule condition old new r) (y : RuleSolved mode i o rule condition old new′ r′) where
   same-refusal : x .refusal ≡ y .refusal
   same-refusal =
       let ρ = one-reading i o true rule (x .read) (y .read) in
       let κ = one-reading i 0 false condition (x .condition-read) (y .condition-read) in
       x .first
       ∙ ap₂ (λ (p q : Reading). ruleRefusal i o rule condition old p q (x .states)) ρ κ
-      ∙ one-refusal i o rule condition old (y .reading) (y .condition-reading) (x .states) (y .states) (y .read) (x .counted) (y .counted)
+      ∙ one-count i o rule condition old (y .reading) (y .condition-reading) (x .states) (y .states) (y .read) (x .counted) (y .counted)
       ∙ sym (y .first)
 
   -- the automaton's two buffers, served or refused
@@ -236,7 +238,7 @@ module _ {fair : Bool} {i o : ℕ} {rule condition : List ℕ} {old new new′ :
 
   -- tables and verdict of a run
   abbrev Played : Buffers → Bool → Arena → Type 0
-  Played b can G = Tables fair G (old .system) (old .environment) (b .system) (b .environment) × Verdict fair G (b .system) (b .environment) 0 can
+  Played b can G = Tables mode G (old .system) (old .environment) (b .system) (b .environment) × Verdict mode G (b .system) (b .environment) 0 can
 
   -- the second run's, on the first run's arena
   moved : (n m : ℕ) → m ≡ n → (κ χ : Formula) → χ ≡ κ → (can : Bool)
@@ -260,14 +262,14 @@ module _ {fair : Bool} {i o : ℕ} {rule condition : List ℕ} {old new new′ :
       let m : y .states ≡ x .states = y .counted (s .formula) (s .good) ∙ sym (x .counted (s .formula) (s .good)) in
       let w = moved (x .states) (y .states) m (s .assumption) (t .assumption) κ (v .0) (t .tables, t .verdict) in
       let a = passed (badAlphabet i o) Alphabet _ (omega arith) (sym (x .first) ∙ z) .0 in
-      let few : 2 ^ i ≤ 16 = pow-mono {j = 4} (inputs-fit i o a) in
-      let few′ : 2 ^ o ≤ 16 = pow-mono {j = 4} (outputs-fit i o a) in
+      let few : 2 ^ i ≤ numberLimit = small-power i (inputs-fit i o a) in
+      let few′ : 2 ^ o ≤ numberLimit = small-power o (outputs-fit i o a) in
       let G = of (x .states) (s .assumption) in (
-        u .1 ∙ ap₂ verdictOf (one-verdict fair G _ _ _ _ 0 (u .0) (v .0) (s .verdict) (w .1)) (sym m) ∙ sym (v .1),
+        u .1 ∙ ap₂ verdictOf (one-verdict mode G _ _ _ _ 0 (u .0) (v .0) (s .verdict) (w .1)) (sym m) ∙ sym (v .1),
         after-verdict _ _ (2 ^ i) _ _ _ _ (x .number ∙ ap numberOf z)
             (subst (λ (n : ℕ). TablesAgree n (2 ^ i) (new .system) (new .environment) (new′ .system) (new′ .environment))
             (sym (ap answerStates (u .1) ∙ verdict-states (u .0) (x .states)))
-            (tables-agree fair G (omega arith) (omega arith) (pow-pos i) _ _ _ _ _ _ (s .tables) (w .0))),
+            (tables-agree mode G (omega arith) (omega arith) (pow-pos i) _ _ _ _ _ _ (s .tables) (w .0))),
       )
 
   rule-refused : (x .refusal ≡ Nothing → ⊥) → Outcome
@@ -284,6 +286,6 @@ module _ {fair : Bool} {i o : ℕ} {rule condition : List ℕ} {old new new′ :
       record { answer = w .0; transitions = same-automaton .0; accepting = same-automaton .1; tables = w .1 }
 
 -- two runs of the rule call agree
-pub one-rule : {fair : Bool} {i o : ℕ} {rule condition : List ℕ} {old new new′ : Buffers} {r r′ : Answer}
-    → RuleSolved fair i o rule condition old new r → RuleSolved fair i o rule condition old new′ r′ → RuleAgree (2 ^ i) new new′ r r′
+pub one-rule : {mode : Mode} {i o : ℕ} {rule condition : List ℕ} {old new new′ : Buffers} {r r′ : Answer}
+    → RuleSolved mode i o rule condition old new r → RuleSolved mode i o rule condition old new′ r′ → RuleAgree (2 ^ i) new new′ r r′
 one-rule x y = rule-agrees x y

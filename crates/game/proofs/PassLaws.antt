@@ -7,9 +7,10 @@ use Prim.Native.Nat.{ℕ, _+_, _<_, _≤_}
 use native.Mathlib.Omega.{arith}
 use lib.ListN.{length, getD, set}
 use lib.Seq.{getD-set-same, getD-set-other}
+use Rattle.game.specs.inner.Limits.{rankLimit}
 use Rattle.plays.specs.Arena.{Arena}
 use Rattle.game.specs.inner.Game.{Valid}
-use Rattle.game.specs.inner.Solver.{everyRank, rankedBelow, Unranked, Attracts, Keeps, InnerRanks, Passed, Attraction}
+use Rattle.game.specs.inner.Solver.{rankedBelow, Unranked, Attracts, Keeps, InnerRanks, Passed, Attraction}
 use Rattle.plays.proofs.CaseLaws.{zero-or, same-or}
 use Rattle.game.proofs.LimitLaws.{none-below, not-below, below-none, same-below}
 use Rattle.game.proofs.ForcingLaws.{favorable-map}
@@ -75,12 +76,12 @@ module _ {fair : Bool} {G : Arena} {outer old inner : List ℕ} {p k : ℕ} {gav
 
     attracts : (q : ℕ) → q ≤ p → (s : ℕ) → s < G .states → Attracts fair G outer inner q s → Attracts fair G outer new q s
     attracts q le s l =
-        favorable-map v (not fair) s (rankedBelow q inner) (rankedBelow everyRank outer) (rankedBelow q new) (rankedBelow everyRank outer) l
+        favorable-map v (not fair) s (rankedBelow q inner) (rankedBelow rankLimit outer) (rankedBelow q new) (rankedBelow rankLimit outer) l
         (λ t e. earlier q le t ∙ e) (λ t e. e)
 
     keeps : (s : ℕ) → s < G .states → Keeps fair G outer inner p s → Keeps fair G outer new p s
     keeps s l =
-        favorable-map v fair s (rankedBelow everyRank outer) (rankedBelow p inner) (rankedBelow everyRank outer) (rankedBelow p new) l
+        favorable-map v fair s (rankedBelow rankLimit outer) (rankedBelow p inner) (rankedBelow rankLimit outer) (rankedBelow p new) l
         (λ t e. e) (λ t e. earlier p (omega arith) t ∙ e)
 
     -- a state's certificate speaks of the ranks below its own
@@ -149,6 +150,6 @@ passes-end {fair} {G} {outer} {old} {inner} {p} v le i last e =
     record {
       ranks = wider (G .states + 1) le i′;
       keeps = λ s l z.
-          favorable-map v fair s (rankedBelow everyRank outer) (rankedBelow p inner) (rankedBelow everyRank outer) (rankedBelow everyRank inner) l
-          (λ t w. w) (λ t d. none-below everyRank inner t (below-none p inner t d (i′ .below t))) (last .keeps s l z);
+          favorable-map v fair s (rankedBelow rankLimit outer) (rankedBelow p inner) (rankedBelow rankLimit outer) (rankedBelow rankLimit inner) l
+          (λ t w. w) (λ t d. none-below rankLimit inner t (below-none p inner t d (i′ .below t))) (last .keeps s l z);
     }

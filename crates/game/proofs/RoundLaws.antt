@@ -7,10 +7,11 @@ use mathlib.Core.Logic.{_⊎_, ⊎-elim}
 use Prim.Native.Nat.{ℕ, _+_, _<_, _≤_}
 use native.Mathlib.Omega.{arith}
 use lib.ListN.{getD}
+use Rattle.game.specs.inner.Limits.{rankLimit}
 use Rattle.plays.specs.Arena.{Arena}
 use Rattle.plays.specs.inner.Rank.{Forces, Falls, Ranked, Ranking}
 use Rattle.game.specs.inner.Game.{Valid}
-use Rattle.game.specs.inner.Solver.{everyRank, rankedBelow, Unranked, Favorable, Grows, Attraction, Promoted}
+use Rattle.game.specs.inner.Solver.{rankedBelow, Unranked, Favorable, Grows, Attraction, Promoted}
 use Rattle.plays.proofs.CaseLaws.{zero-or, below-or}
 use Rattle.game.proofs.LimitLaws.{ranked-below, below-none}
 use Rattle.game.proofs.ForcingLaws.{forces-map}
@@ -77,12 +78,12 @@ module _ {fair : Bool} {G : Arena} (v : Valid G) {outer inner : List ℕ} {r : �
     new-forced : (u : ℕ) → u < G .states → Unranked outer inner u → Forces G fair u (Falls G fair true new u)
     new-forced u l un =
         let is = pro .added u l un in
-        let no-inner : (t : ℕ) → rankedBelow everyRank inner t ≡ false → getD inner t 0 ≡ 0 = λ t e.
-        below-none everyRank inner t e (omega (arith, at .ranks .below t, v .moving .states-fit)) in
-        forces-map v fair u (Favorable G fair (rankedBelow everyRank outer) (rankedBelow everyRank inner)) (Falls G fair true new u) l
+        let no-inner : (t : ℕ) → rankedBelow rankLimit inner t ≡ false → getD inner t 0 ≡ 0 = λ t e.
+        below-none rankLimit inner t e (omega (arith, at .ranks .below t, v .moving .states-fit)) in
+        forces-map v fair u (Favorable G fair (rankedBelow rankLimit outer) (rankedBelow rankLimit inner)) (Falls G fair true new u) l
         (λ x t tl d. (
           new-positive t tl (no-inner t (d .0)),
-          (λ h. let z = ranked-below everyRank outer t (d .1 h) .0 in omega (arith, pro .extends t z, so-far .below t)),
+          (λ h. let z = ranked-below rankLimit outer t (d .1 h) .0 in omega (arith, pro .extends t z, so-far .below t)),
           (λ h. omega (arith, new-below t)),
         ))
         (at .keeps u l un)
@@ -119,9 +120,9 @@ module _ {fair : Bool} {G : Arena} (v : Valid G) {outer inner : List ℕ} {r : �
           within = at .ranks .within;
           bound = λ t. omega (arith, at .ranks .below t);
           forced = λ u p.
-              forces-map v (not fair) u (Favorable G (not fair) (rankedBelow (getD inner u 0) inner) (rankedBelow everyRank outer)) (Falls G (not fair) false inner u) (at .ranks .within u p)
+              forces-map v (not fair) u (Favorable G (not fair) (rankedBelow (getD inner u 0) inner) (rankedBelow rankLimit outer)) (Falls G (not fair) false inner u) (at .ranks .within u p)
               (λ x t tl d. (
-                total t tl (below-none everyRank outer t (d .0) (omega (arith, so-far .below t, v .moving .states-fit))),
+                total t tl (below-none rankLimit outer t (d .0) (omega (arith, so-far .below t, v .moving .states-fit))),
                 (λ h. ranked-below (getD inner u 0) inner t (d .1 h) .1),
                 (λ h. absurd (mathlib.Core.Bool.false≢true h)),
               ))

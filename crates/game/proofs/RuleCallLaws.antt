@@ -31,6 +31,7 @@ use Rattle.automaton.proofs.ConstructionLaws.{long-enough}
 use Rattle.game.specs.declared.answer.Answer.{Answer}
 use Rattle.game.specs.declared.answer.Answer.the-variants.{Refused}
 use Rattle.game.specs.Answer.{answerNumber, answerPlace, verdictOf}
+use Rattle.plays.specs.declared.mode.Mode.{Mode}
 use Rattle.plays.specs.Arena.{Arena, arena}
 use Rattle.game.specs.inner.Game.{Valid}
 use Rattle.game.specs.Tables.{Tables, Verdict}
@@ -40,8 +41,8 @@ use Rattle.game.proofs.AnswerLaws.{verdict-number, verdict-place}
 use Rattle.game.proofs.RuleLaws.{some-state, automaton-valid, can-keep, cannot-keep}
 
 -- refused before the automaton is built
-pub refused-early : (fair : Bool) (i o : ℕ) (rule condition : List ℕ) (old : Buffers) (x : Refusal) (mask : ℕ) → (x ≡ Nothing → ⊥) → RuleChecked i o rule condition old x mask → RuleSolved fair i o rule condition old old (Refused x)
-refused-early fair i o rule condition old x mask ne c =
+pub refused-early : (mode : Mode) (i o : ℕ) (rule condition : List ℕ) (old : Buffers) (x : Refusal) (mask : ℕ) → (x ≡ Nothing → ⊥) → RuleChecked i o rule condition old x mask → RuleSolved mode i o rule condition old old (Refused x)
+refused-early mode i o rule condition old x mask ne c =
     let n = count-of i o rule (c .reading) (c .read) in
     record {
       reading = c .reading;
@@ -76,7 +77,7 @@ unbuilt-is x y m e =
     (refused-or-served x)
 
 -- the tests were passed, and the construction was asked
-module _ (fair : Bool) (i o : ℕ) (rule condition : List ℕ) (old : Buffers) (mask : ℕ) (check : RuleChecked i o rule condition old Nothing mask) (t a : List ℕ) where
+module _ (mode : Mode) (i o : ℕ) (rule condition : List ℕ) (old : Buffers) (mask : ℕ) (check : RuleChecked i o rule condition old Nothing mask) (t a : List ℕ) where
   abbrev pass : TestsPassed i o rule condition old (check .reading) (check .condition-reading) mask
   pass = check .passed refl
 
@@ -113,7 +114,7 @@ module _ (fair : Bool) (i o : ℕ) (rule condition : List ℕ) (old : Buffers) (
   by-count true x s e = e
   by-count false x s e = absurd (something x s e)
 
-  pub refused-late : (y : Refusal) → Constructed i o rule (old .transitions) (old .accepting) t a (Unbuilt y) → RuleSolved fair i o rule condition old (buffers t a (old .system) (old .environment)) (Refused y)
+  pub refused-late : (y : Refusal) → Constructed i o rule (old .transitions) (old .accepting) t a (Unbuilt y) → RuleSolved mode i o rule condition old (buffers t a (old .system) (old .environment)) (Refused y)
   refused-late y made =
       let u = unbuilt-is (made .refusal) y (made .states) (made .answer) in
       let e : y ≡ StateCount = u .1 ∙ by-count (ltb stateLimit (made .states)) (made .refusal) (u .0) (counts (Unbuilt y) made) in
@@ -162,13 +163,13 @@ module _ (fair : Bool) (i o : ℕ) (rule condition : List ℕ) (old : Buffers) (
     pub starts : 0 < n
     starts = some-state (automaton-of .automaton)
 
-    pub answered : (σ τ : List ℕ) (can : Bool) → Tables fair (arena i o n t a mask) (old .system) (old .environment) σ τ → Verdict fair (arena i o n t a mask) σ τ 0 can
-        → RuleSolved fair i o rule condition old (buffers t a σ τ) (verdictOf can n)
+    pub answered : (σ τ : List ℕ) (can : Bool) → Tables mode (arena i o n t a mask) (old .system) (old .environment) σ τ → Verdict mode (arena i o n t a mask) σ τ 0 can
+        → RuleSolved mode i o rule condition old (buffers t a σ τ) (verdictOf can n)
     answered σ τ can tables verdict =
         let s = automaton-of in
         let m = pass .mask-is in
-        let won : Tables fair (arena i o n t a (maskOf (pass .assumption) i)) (old .system) (old .environment) σ τ = subst (λ (k : ℕ). Tables fair (arena i o n t a k) (old .system) (old .environment) σ τ) m tables in
-        let said : Verdict fair (arena i o n t a (maskOf (pass .assumption) i)) σ τ 0 can = subst (λ (k : ℕ). Verdict fair (arena i o n t a k) σ τ 0 can) m verdict in
+        let won : Tables mode (arena i o n t a (maskOf (pass .assumption) i)) (old .system) (old .environment) σ τ = subst (λ (k : ℕ). Tables mode (arena i o n t a k) (old .system) (old .environment) σ τ) m tables in
+        let said : Verdict mode (arena i o n t a (maskOf (pass .assumption) i)) σ τ 0 can = subst (λ (k : ℕ). Verdict mode (arena i o n t a k) σ τ 0 can) m verdict in
         record {
           reading = check .reading;
           read = check .read;
@@ -194,8 +195,8 @@ module _ (fair : Bool) (i o : ℕ) (rule condition : List ℕ) (old : Buffers) (
               accepting-rest = s .accepting-rest;
               tables = won;
               verdict = said;
-              can-promise = λ e. can-keep (s .formula) i o n t a (maskOf (pass .assumption) i) (s .automaton) fair σ (said .system e .wins);
-              cannot-promise = λ e. cannot-keep (s .formula) i o n t a (maskOf (pass .assumption) i) (s .automaton) fair τ (said .environment e .wins);
+              can-promise = λ e. can-keep (s .formula) i o n t a (maskOf (pass .assumption) i) (s .automaton) mode σ (said .system e .wins);
+              cannot-promise = λ e. cannot-keep (s .formula) i o n t a (maskOf (pass .assumption) i) (s .automaton) mode τ (said .environment e .wins);
             },
           );
           refused = λ z. absurd (z refl);

@@ -24,6 +24,7 @@ use Rattle.automaton.specs.Trace.{Satisfies}
 use Rattle.automaton.specs.State.{start, accepts}
 use Rattle.automaton.specs.Discovery.{states}
 use Rattle.automaton.specs.Automaton.{Automaton}
+use Rattle.plays.specs.declared.mode.Mode.{Mode}
 use Rattle.plays.specs.Arena.{Arena, arena, next, goal}
 use Rattle.plays.specs.Play.{Step, Legal, entered, run, reaches, letters, Along}
 use Rattle.plays.specs.Strategy.{BySystem, ByEnvironment, SystemWins, EnvironmentWins}
@@ -119,22 +120,22 @@ module _ (φ : Formula) (i o n : ℕ) (transitions flags : List ℕ) (mask : ℕ
           states-fit = few;
           inputs-fit = small-power i (inputs-fit i o a);
           outputs-fit = small-power o (outputs-fit i o a);
-          long = omega (arith, mul-le-mul-right L few, ap (λ (m : ℕ). 128 * m) (pow-add 2 i o));
+          long = omega (arith, mul-le-mul-right L few, ap (λ (m : ℕ). stateLimit * m) (pow-add 2 i o));
           closed = λ k h. subst (λ (j : ℕ). getD transitions j 0 < n) (div-add-mod' k L) (on-product .moved (k / L) (k % L) (div-lt-iff-lt-mul positive .1 h) (mod-lt k positive) .0);
         };
         accepting-long = omega arith;
       }
 
-  pub can-keep : (fair : Bool) (σ : List ℕ) → SystemWins fair G σ 0 → Can fair φ G σ
-  can-keep fair σ w =
+  pub can-keep : (mode : Mode) (σ : List ℕ) → SystemWins mode G σ 0 → Can mode φ G σ
+  can-keep mode σ w =
       record {
         satisfying = λ p h o. reached-satisfied φ G on-product (BySystem G σ) (λ s a b. b .0) p h (w .reaching p h o);
         answers = λ p h never. w .answers p h
             (on (reaches G 0 p) (λ t. absurd (never (reached-satisfied φ G on-product (BySystem G σ) (λ s a b. b .0) p h t))) (λ f. f));
       }
 
-  pub cannot-keep : (fair : Bool) (τ : List ℕ) → EnvironmentWins fair G τ 0 → Cannot fair φ G τ
-  cannot-keep fair τ w =
+  pub cannot-keep : (mode : Mode) (τ : List ℕ) → EnvironmentWins mode G τ 0 → Cannot mode φ G τ
+  cannot-keep mode τ w =
       record {
         avoiding = λ p h s. clash (reaches G 0 p) (satisfied-reached φ G on-product (ByEnvironment G τ) (λ s a b. b .0) p h s) (w .avoiding p h);
         keeping = w .keeping;

@@ -10,10 +10,12 @@ use native.Mathlib.Omega.{arith}
 use lib.Dec.{eqb}
 use lib.ListN.{getD}
 use borrow.Author.Tests.{eqb-true, eqb-false}
+use Rattle.game.specs.inner.Limits.{numberLimit}
 use Rattle.automaton.specs.Limits.{stateLimit}
+use Rattle.plays.specs.declared.mode.Mode.{Mode}
 use Rattle.plays.specs.Arena.{Arena}
 use Rattle.plays.specs.Strategy.{systemByte, environmentByte}
-use Rattle.plays.specs.inner.Rank.{Ranked, Ranking, AllowedOutput, AllowedInput}
+use Rattle.plays.specs.inner.Rank.{modeOf, Ranked, Ranking, AllowedOutput, AllowedInput}
 use Rattle.game.specs.Tables.{SystemState, EnvironmentState, Tables, Verdict, noMove}
 use Rattle.game.specs.inner.Bytes.{SystemByte, SystemFilled, EnvironmentFilled}
 use Rattle.reader.proofs.BoolLaws.{on, nonzero}
@@ -42,14 +44,14 @@ module _ (fair : Bool) (G : Arena) (small : G .states ≤ stateLimit) (system en
       (sf .byte (s * G .inputs + x) (row-below stateLimit (G .inputs) s x hs hx))
 
   outputs-allowed : (s : ℕ) → 0 < getD system s 0 → (x : ℕ) → x < G .inputs → AllowedOutput fair G system s x (systemByte G σ s x)
-  outputs-allowed s p x l = system-at s x (let q : s < 128 = omega (arith, ranking .of-system .within s p) in q) l .allowed p
+  outputs-allowed s p x l = system-at s x (let q : s < stateLimit = omega (arith, ranking .of-system .within s p) in q) l .allowed p
 
   inputs-allowed : (s : ℕ) → 0 < getD environment s 0 → AllowedInput fair G environment s (environmentByte τ s)
-  inputs-allowed s p = ef .byte s (let q : s < 128 = omega (arith, ranking .of-environment .within s p) in q) .allowed p
+  inputs-allowed s p = ef .byte s (let q : s < stateLimit = omega (arith, ranking .of-environment .within s p) in q) .allowed p
 
-  state-won : (s : ℕ) → s < G .states → SystemState fair G σ τ s ⊎ EnvironmentState fair G σ τ s
+  state-won : (s : ℕ) → s < G .states → SystemState (modeOf fair) G σ τ s ⊎ EnvironmentState (modeOf fair) G σ τ s
   state-won s l =
-      let q : s < 128 = omega arith in
+      let q : s < stateLimit = omega arith in
       ⊎-elim
       (λ w. _⊎_.inl
       (record {
@@ -65,7 +67,7 @@ module _ (fair : Bool) (G : Arena) (small : G .states ≤ stateLimit) (system en
       }))
       (ranking .each s l)
 
-  pub filled-tables : Tables fair G σ₀ τ₀ σ τ
+  pub filled-tables : Tables (modeOf fair) G σ₀ τ₀ σ τ
   filled-tables =
       record {
         won = state-won;
@@ -78,10 +80,10 @@ module _ (fair : Bool) (G : Arena) (small : G .states ≤ stateLimit) (system en
       }
 
 -- the system wins from the start exactly when the environment has no move there
-pub start-verdict : (fair : Bool) (G : Arena) (σ₀ τ₀ σ τ : List ℕ) (start : ℕ) → start < G .states → G .inputs ≤ 16 → Tables fair G σ₀ τ₀ σ τ
-    → Verdict fair G σ τ start (eqb (environmentByte τ start) noMove)
-start-verdict fair G σ₀ τ₀ σ τ start l small t =
+pub start-verdict : (mode : Mode) (G : Arena) (σ₀ τ₀ σ τ : List ℕ) (start : ℕ) → start < G .states → G .inputs ≤ numberLimit → Tables mode G σ₀ τ₀ σ τ
+    → Verdict mode G σ τ start (eqb (environmentByte τ start) noMove)
+start-verdict mode G σ₀ τ₀ σ τ start l small t =
     ⊎-elim
-    (λ w. record { system = λ _. w; environment = λ e. absurd (eqb-false (getD τ start 0) 255 e (w .other)) })
-    (λ w. record { system = λ e. (let z : ⊥ = omega (arith, eqb-true (getD τ start 0) 255 e, w .byte) in absurd z); environment = λ _. w })
+    (λ w. record { system = λ _. w; environment = λ e. absurd (eqb-false (getD τ start 0) noMove e (w .other)) })
+    (λ w. record { system = λ e. (let z : ⊥ = omega (arith, eqb-true (getD τ start 0) noMove e, w .byte) in absurd z); environment = λ _. w })
     (t .won start l)

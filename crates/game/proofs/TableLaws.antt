@@ -10,6 +10,7 @@ use lib.Dec.{eqb, leb}
 use lib.ListN.{length, getD, set}
 use lib.Seq.{getD-set-same, getD-set-other}
 use borrow.Author.Tests.{eqb-true, eqb-false, eq-eqb, ne-eqb, leb-true, leb-false}
+use Rattle.automaton.specs.Limits.{stateLimit}
 use Rattle.plays.specs.Arena.{Arena, next, goal, holds, lacks}
 use Rattle.plays.specs.inner.Rank.{judged, Safe, Falls, Ranked, AllowedInput}
 use Rattle.game.specs.Tables.{noMove}
@@ -52,7 +53,7 @@ some-rank r limit t e =
     }
 
 -- a rank falls as it should exactly when it is below the limit
-pub falls-limit : (G : Arena) (player steady : Bool) (r : List ℕ) → ((t : ℕ) → getD r t 0 ≤ 128) → (s x t : ℕ) → 0 < getD r s 0 → (b : Bool) → b ≡ judged G player x
+pub falls-limit : (G : Arena) (player steady : Bool) (r : List ℕ) → ((t : ℕ) → getD r t 0 ≤ stateLimit) → (s x t : ℕ) → 0 < getD r s 0 → (b : Bool) → b ≡ judged G player x
     → Falls G player steady r s x t → Below r (limitOf steady b (getD r s 0)) t
 falls-limit G player steady r h s x t p true e d = (d .0, omega (arith, d .1 (sym e)))
 falls-limit G player true r h s x t p false e d = (d .0, d .2 refl)
@@ -65,7 +66,7 @@ limit-falls G player true r s x t p false e d = (d .0, (λ h. absurd (mathlib.Co
 limit-falls G player false r s x t p false e d = (d .0, (λ h. absurd (mathlib.Core.Bool.false≢true (e ∙ h))), (λ h. absurd (mathlib.Core.Bool.false≢true h)))
 
 -- The same on the state that a step enters, for either player, where `limit` is that of the input.
-module _ (G : Arena) (player steady : Bool) (small : G .states ≤ 128) (r : List ℕ) (rk : Ranked G player steady r) (s x : ℕ) (p : 0 < getD r s 0)
+module _ (G : Arena) (player steady : Bool) (small : G .states ≤ stateLimit) (r : List ℕ) (rk : Ranked G player steady r) (s x : ℕ) (p : 0 < getD r s 0)
     (b : Bool) (eb : b ≡ judged G player x) (limit : ℕ) (el : limit ≡ limitOf steady b (getD r s 0)) where
   pub safe-limit : (t : ℕ) → Safe G player t (Falls G player steady r s x t) → Safe G player t (Below r limit t)
   safe-limit t =
@@ -76,7 +77,7 @@ module _ (G : Arena) (player steady : Bool) (small : G .states ≤ 128) (r : Lis
   limit-safe t = safe-map G player t (λ d. limit-falls G player steady r s x t p b eb (subst (λ (m : ℕ). Below r m t) el d))
 
 -- the system's byte: an output below the limit exists, and any such is allowed
-module _ (fair : Bool) (G : Arena) (small : G .states ≤ 128) (r : List ℕ) (rk : Ranked G true fair r) (s x : ℕ) (p : 0 < getD r s 0)
+module _ (fair : Bool) (G : Arena) (small : G .states ≤ stateLimit) (r : List ℕ) (rk : Ranked G true fair r) (s x : ℕ) (p : 0 < getD r s 0)
     (b : Bool) (eb : b ≡ holds G x) (limit : ℕ) (el : limit ≡ limitOf fair b (getD r s 0)) where
   pub some-output : x < G .inputs → SomeOutput G r limit s x
   some-output hx =
@@ -91,7 +92,7 @@ module _ (fair : Bool) (G : Arena) (small : G .states ≤ 128) (r : List ℕ) (r
       }
 
 -- the environment's byte: an input all whose outputs are below the limit is allowed, and any other is not
-module _ (fair : Bool) (G : Arena) (small : G .states ≤ 128) (r : List ℕ) (rk : Ranked G false (not fair) r) (s x : ℕ) (p : 0 < getD r s 0)
+module _ (fair : Bool) (G : Arena) (small : G .states ≤ stateLimit) (r : List ℕ) (rk : Ranked G false (not fair) r) (s x : ℕ) (p : 0 < getD r s 0)
     (b : Bool) (eb : b ≡ lacks G x) (limit : ℕ) (el : limit ≡ limitOf (not fair) b (getD r s 0)) where
   pub allowed-every : AllowedInput fair G r s x → EveryOutput G r limit s x
   allowed-every h y l = safe-limit G false (not fair) small r rk s x p b eb limit el (next G s x y) (h .1 y l)

@@ -12,9 +12,11 @@ use Rattle.automaton.specs.Trace.{Satisfies}
 use Rattle.automaton.specs.Condition.{maskOf, Judges}
 use Rattle.game.specs.declared.answer.Answer.{Answer}
 use Rattle.game.specs.declared.answer.Answer.the-variants.{Can, Cannot, Refused}
-use Rattle.plays.specs.Arena.{Arena, arena}
+use Rattle.plays.specs.declared.mode.Mode.{Mode}
+use Rattle.plays.specs.Arena.{State, Arena, arena}
 use Rattle.plays.specs.Play.{Step, letters}
 use Rattle.game.specs.Rule.{Buffers}
+use Rattle.plays.specs.Strategy.{Table}
 use Rattle.plays.specs.Endless.{Reaching, CanEndless, CannotEndless}
 
 -- a beginning satisfies the rule
@@ -30,21 +32,21 @@ pub record Texts (i o : ℕ) (rule condition : List ℕ) : Type 0 where
   pub judges : Judges assumption i (maskOf assumption i)
 
 -- the arena of n states that a rule call left, with the condition's mask
-abbrev pub arenaLeft : ℕ → ℕ → ℕ → Buffers → Formula → Arena
+abbrev pub arenaLeft : (i o n : ℕ) (new : Buffers) (κ : Formula) → Arena
 arenaLeft i o n new κ = arena i o n (new .transitions) (new .accepting) (maskOf κ i)
 
 -- the rule call's answer: on "can" and on "cannot", in terms of beginnings that satisfy the rule
-abbrev pub RuleEndless : Bool → ℕ → ℕ → List ℕ → List ℕ → Buffers → Answer → Type 0
-RuleEndless fair i o rule condition new (Can n) =
+abbrev pub RuleEndless : (mode : Mode) (i o : ℕ) (rule condition : List ℕ) (new : Buffers) (r : Answer) → Type 0
+RuleEndless mode i o rule condition new (Can n) =
     (t : Texts i o rule condition)
-    × CanEndless fair (arenaLeft i o n new (t .assumption)) (new .system) 0 (Satisfying (t .formula) (arenaLeft i o n new (t .assumption)))
-RuleEndless fair i o rule condition new (Cannot n) =
+    × CanEndless mode (arenaLeft i o n new (t .assumption)) (new .system) 0 (Satisfying (t .formula) (arenaLeft i o n new (t .assumption)))
+RuleEndless mode i o rule condition new (Cannot n) =
     (t : Texts i o rule condition)
-    × CannotEndless fair (arenaLeft i o n new (t .assumption)) (new .environment) 0 (Satisfying (t .formula) (arenaLeft i o n new (t .assumption)))
-RuleEndless fair i o rule condition new (Refused x) = Unit {0}
+    × CannotEndless mode (arenaLeft i o n new (t .assumption)) (new .environment) 0 (Satisfying (t .formula) (arenaLeft i o n new (t .assumption)))
+RuleEndless mode i o rule condition new (Refused x) = Unit {0}
 
 -- the answer for a given automaton, in terms of goals entered
-abbrev pub GivenEndless : Bool → Arena → List ℕ → List ℕ → ℕ → Answer → Type 0
-GivenEndless fair G σ τ start (Can n) = CanEndless fair G σ start (Reaching G start)
-GivenEndless fair G σ τ start (Cannot n) = CannotEndless fair G τ start (Reaching G start)
-GivenEndless fair G σ τ start (Refused x) = Unit {0}
+abbrev pub GivenEndless : (mode : Mode) (G : Arena) (σ τ : Table) (start : State) (r : Answer) → Type 0
+GivenEndless mode G σ τ start (Can n) = CanEndless mode G σ start (Reaching G start)
+GivenEndless mode G σ τ start (Cannot n) = CannotEndless mode G τ start (Reaching G start)
+GivenEndless mode G σ τ start (Refused x) = Unit {0}

@@ -4,7 +4,6 @@
 use Prim.Native.Nat.{ℕ, _+_, _*_}
 use mathlib.Core.Path.{_≡_}
 use mathlib.Core.Bool.{Bool, cond, _||_}
-use mathlib.Core.List.{List}
 use lib.Dec.{ltb, leb}
 use lib.ListN.{length}
 use Rattle.reader.specs.declared.refusal.Refusal.{Refusal}
@@ -14,12 +13,12 @@ use Rattle.automaton.specs.Alphabet.{badAlphabet}
 use Rattle.game.specs.declared.follow.Position.{Position}
 use Rattle.game.specs.declared.follow.Followed.{Followed}
 use Rattle.game.specs.declared.follow.Followed.the-variants.{Moved, NoRow, Refused}
-use Rattle.plays.specs.Arena.{Arena, moveIndex, next, goal}
-use Rattle.plays.specs.Strategy.{systemByte}
+use Rattle.plays.specs.Arena.{Input, Output, Arena, moveIndex, next, goal}
+use Rattle.plays.specs.Strategy.{Table, systemByte}
 use Rattle.game.specs.Given.{badCount, shortRead}
 
 -- refusal 3, for the table that is read: n states' share
-abbrev pub shortStrategy : Arena → List ℕ → Bool
+abbrev pub shortStrategy : Arena → Table → Bool
 shortStrategy G σ = ltb (length σ) (G .states * G .inputs)
 
 -- the position after a step into state t
@@ -27,13 +26,13 @@ abbrev pub positionAt : Arena → Position → ℕ → Position
 positionAt G p t = record { state = t; reached = p .reached || goal G t }
 
 -- the move by output y: refused where it leads to no state
-abbrev pub movedBy : Arena → Position → ℕ → ℕ → Followed
+abbrev pub movedBy : (G : Arena) (p : Position) (x : Input) (y : Output) → Followed
 movedBy G p x y =
     cond (leb (G .states) (next G (p .state) x y)) (Refused (Move (moveIndex G (p .state) x y)))
     (Moved y (positionAt G p (next G (p .state) x y)))
 
 -- the refusal that comes first: 1, 10, 3, 12, 13, and 11, which "no row" comes before
-unfoldable pub followRefusal : ℕ → ℕ → Arena → List ℕ → Position → ℕ → Refusal
+unfoldable pub followRefusal : (i o : ℕ) (G : Arena) (σ : Table) (p : Position) (x : ℕ) → Refusal
 unfolding next
 followRefusal i o G σ p x =
     cond (badAlphabet i o) Alphabet
@@ -46,7 +45,7 @@ followRefusal i o G σ p x =
     Nothing))))))
 
 -- the answer once the numbers i, o and n are in range: 3, 12, 13, "no row", 11
-unfoldable pub laterFollowed : Arena → List ℕ → Position → ℕ → Followed
+unfoldable pub laterFollowed : (G : Arena) (σ : Table) (p : Position) (x : ℕ) → Followed
 unfolding next goal
 laterFollowed G σ p x =
     cond (shortRead G || shortStrategy G σ) (Refused Buffer)
@@ -56,7 +55,7 @@ laterFollowed G σ p x =
     (movedBy G p x (systemByte G σ (p .state) x)))))
 
 -- the answer on every input
-unfoldable pub followed : ℕ → ℕ → Arena → List ℕ → Position → ℕ → Followed
+unfoldable pub followed : (i o : ℕ) (G : Arena) (σ : Table) (p : Position) (x : ℕ) → Followed
 unfolding laterFollowed
 followed i o G σ p x =
     cond (badAlphabet i o) (Refused Alphabet) (cond (badCount (G .states)) (Refused GivenCount) (laterFollowed G σ p x))
@@ -74,7 +73,7 @@ followedPlace NoRow = 0
 followedPlace (Refused x) = placeOf x
 
 -- the whole promise: the answer, and the specification's number and place of it
-pub record FollowedBy (i o : ℕ) (G : Arena) (σ : List ℕ) (p : Position) (x : ℕ) (r : Followed) : Type 0 where
+pub record FollowedBy (i o : ℕ) (G : Arena) (σ : Table) (p : Position) (x : ℕ) (r : Followed) : Type 0 where
   pub answer : r ≡ followed i o G σ p x
   pub number : followedNumber r ≡ numberOf (followRefusal i o G σ p x)
   pub place : followedPlace r ≡ placeOf (followRefusal i o G σ p x)

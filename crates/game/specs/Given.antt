@@ -4,7 +4,6 @@
 use Prim.Native.Nat.{ℕ, _+_, _*_, _/_, _^_}
 use mathlib.Core.Path.{_≡_}
 use mathlib.Core.Bool.{Bool, not, cond, _||_}
-use mathlib.Core.List.{List}
 use lib.Dec.{eqb, ltb, leb}
 use lib.ListN.{length, take}
 use Rattle.reader.specs.declared.refusal.Refusal.{Refusal}
@@ -15,7 +14,9 @@ use Rattle.automaton.specs.Alphabet.{badAlphabet, afterList}
 use Rattle.game.specs.declared.answer.Answer.{Answer}
 use Rattle.game.specs.declared.answer.Answer.the-variants.{Refused}
 use Rattle.game.specs.Answer.{answerNumber, answerPlace, verdictOf}
+use Rattle.plays.specs.declared.mode.Mode.{Mode}
 use Rattle.plays.specs.Arena.{Arena}
+use Rattle.plays.specs.Strategy.{Table}
 use Rattle.game.specs.Tables.{Tables, Verdict}
 
 -- refusal 10: no states, or more than 128
@@ -31,7 +32,7 @@ abbrev pub shortRead : Arena → Bool
 shortRead G = ltb (length (G .transitions)) (moveCount G) || ltb (length (G .accepting)) (G .states)
 
 -- refusal 3, for the tables: 128 states' share
-abbrev pub shortTables : Arena → List ℕ → List ℕ → Bool
+abbrev pub shortTables : Arena → Table → Table → Bool
 shortTables G σ τ = ltb (length σ) (stateLimit * G .inputs) || ltb (length τ) stateLimit
 
 -- refusal 13: the mask has a bit from 2^i up
@@ -39,7 +40,7 @@ abbrev pub badMask : Arena → Bool
 badMask G = not (eqb (G .mask / 2 ^ G .inputs) 0)
 
 -- the later refusals, once the numbers i, o and n are in range: 3, 12, 11, 13
-unfoldable pub laterRefusal : ℕ → Arena → List ℕ → List ℕ → Refusal
+unfoldable pub laterRefusal : (start : ℕ) (G : Arena) (σ τ : Table) → Refusal
 laterRefusal start G σ τ =
     cond (shortRead G || shortTables G σ τ) Buffer
     (cond (leb (G .states) start) State
@@ -47,16 +48,16 @@ laterRefusal start G σ τ =
     (cond (badMask G) (Value 0) Nothing)))
 
 -- the refusal that comes first
-unfoldable pub givenRefusal : ℕ → ℕ → ℕ → Arena → List ℕ → List ℕ → Refusal
+unfoldable pub givenRefusal : (i o start : ℕ) (G : Arena) (σ τ : Table) → Refusal
 givenRefusal i o start G σ τ = cond (badAlphabet i o) Alphabet (cond (badCount (G .states)) GivenCount (laterRefusal start G σ τ))
 
 -- the promise with this refusal coming first: the specification's number and place, the answer and both tables on every input
-pub record Solved (refusal : Refusal) (fair : Bool) (start : ℕ) (G : Arena) (σ₀ τ₀ σ τ : List ℕ) (r : Answer) : Type 0 where
+pub record Solved (refusal : Refusal) (mode : Mode) (start : ℕ) (G : Arena) (σ₀ τ₀ σ τ : Table) (r : Answer) : Type 0 where
   pub number : answerNumber r ≡ numberOf refusal
   pub place : answerPlace r ≡ placeOf refusal
   pub refused : (refusal ≡ Nothing → ⊥) → (r ≡ Refused refusal) × (σ ≡ σ₀) × (τ ≡ τ₀)
-  pub served : refusal ≡ Nothing → (can : Bool) × (r ≡ verdictOf can (G .states)) × Tables fair G σ₀ τ₀ σ τ × Verdict fair G σ τ start can
+  pub served : refusal ≡ Nothing → (can : Bool) × (r ≡ verdictOf can (G .states)) × Tables mode G σ₀ τ₀ σ τ × Verdict mode G σ τ start can
 
 -- the whole promise
-abbrev pub GivenSolved : Bool → ℕ → ℕ → ℕ → Arena → List ℕ → List ℕ → List ℕ → List ℕ → Answer → Type 0
-GivenSolved fair i o start G σ₀ τ₀ σ τ r = Solved (givenRefusal i o start G σ₀ τ₀) fair start G σ₀ τ₀ σ τ r
+abbrev pub GivenSolved : (mode : Mode) (i o start : ℕ) (G : Arena) (σ₀ τ₀ σ τ : Table) (r : Answer) → Type 0
+GivenSolved mode i o start G σ₀ τ₀ σ τ r = Solved (givenRefusal i o start G σ₀ τ₀) mode start G σ₀ τ₀ σ τ r

@@ -24,9 +24,10 @@ use Rattle.automaton.specs.Condition.{maskOf, Judges}
 use Rattle.game.specs.declared.answer.Answer.{Answer}
 use Rattle.game.specs.declared.answer.Answer.the-variants.{Refused}
 use Rattle.game.specs.Answer.{answerNumber, answerPlace, verdictOf}
-use Rattle.plays.specs.Arena.{Arena, arena}
+use Rattle.plays.specs.declared.mode.Mode.{Mode}
+use Rattle.plays.specs.Arena.{Input, Arena, arena}
 use Rattle.plays.specs.Play.{Step, run, letters, Along}
-use Rattle.plays.specs.Strategy.{systemByte, environmentByte, BySystem, ByEnvironment, Assumed, Failed}
+use Rattle.plays.specs.Strategy.{Table, systemByte, environmentByte, BySystem, ByEnvironment, Assumed, Failed}
 use Rattle.game.specs.Tables.{Tables, Verdict}
 
 -- a beginning of the play, its first k steps for a k from 1 to its length, satisfies the rule
@@ -35,34 +36,35 @@ Satisfied φ G p = (k : ℕ) × (0 < k) × (k ≤ length p) × Satisfies φ (tak
 
 -- "can": every play from the start that follows the system's strategy has a beginning that satisfies the rule, where the condition has come often enough,
 -- and until then comes to no byte that is no output
-pub record Can (fair : Bool) (φ : Formula) (G : Arena) (σ : List ℕ) : Type 0 where
-  pub satisfying : (p : List Step) → Along G (BySystem G σ) 0 p → Assumed fair G p → Satisfied φ G p
-  pub answers : (p : List Step) → Along G (BySystem G σ) 0 p → (Satisfied φ G p → ⊥) → (x : ℕ) → x < G .inputs → systemByte G σ (run G 0 p) x < G .outputs
+pub record Can (mode : Mode) (φ : Formula) (G : Arena) (σ : Table) : Type 0 where
+  pub satisfying : (p : List Step) → Along G (BySystem G σ) 0 p → Assumed mode G p → Satisfied φ G p
+  pub answers : (p : List Step) → Along G (BySystem G σ) 0 p → (Satisfied φ G p → ⊥) → (x : Input) → x < G .inputs → systemByte G σ (run G 0 p) x < G .outputs
 
 -- "cannot": no play from the start that follows the environment's strategy has a beginning that satisfies the rule, fails the assumption,
 -- or comes to a byte that is no input
-pub record Cannot (fair : Bool) (φ : Formula) (G : Arena) (τ : List ℕ) : Type 0 where
+pub record Cannot (mode : Mode) (φ : Formula) (G : Arena) (τ : Table) : Type 0 where
   pub avoiding : (p : List Step) → Along G (ByEnvironment G τ) 0 p → Satisfied φ G p → ⊥
-  pub keeping : (p : List Step) → Along G (ByEnvironment G τ) 0 p → Failed fair G p → ⊥
+  pub keeping : (p : List Step) → Along G (ByEnvironment G τ) 0 p → Failed mode G p → ⊥
   pub answers : (p : List Step) → Along G (ByEnvironment G τ) 0 p → environmentByte τ (run G 0 p) < G .inputs
 
 -- the four buffers that are lent: transitions, accepting flags, the system's table and the environment's
 pub record Buffers : Type 0 where
   pub transitions : List ℕ
   pub accepting : List ℕ
-  pub system : List ℕ
-  pub environment : List ℕ
+  pub system : Table
+  pub environment : Table
 
-abbrev pub buffers : List ℕ → List ℕ → List ℕ → List ℕ → Buffers
+abbrev pub buffers : (t a : List ℕ) (σ τ : Table) → Buffers
 buffers t a σ τ = record { transitions = t; accepting = a; system = σ; environment = τ }
 
 -- refusal 3: a buffer is too short for 128 states
 abbrev pub shortBuffers : ℕ → ℕ → Buffers → Bool
 shortBuffers i o old =
-    shortAutomaton (letterCount i o) (old .transitions) (old .accepting) || (ltb (length (old .system)) (stateLimit * 2 ^ i) || ltb (length (old .environment)) stateLimit)
+    shortAutomaton (letterCount i o) (old .transitions) (old .accepting)
+    || (ltb (length (old .system)) (stateLimit * 2 ^ i) || ltb (length (old .environment)) stateLimit)
 
 -- the refusal that comes first, for texts with the readings ρ and κ and a rule with n states
-unfoldable pub ruleRefusal : ℕ → ℕ → List ℕ → List ℕ → Buffers → Reading → Reading → ℕ → Refusal
+unfoldable pub ruleRefusal : (i o : ℕ) (rule condition : List ℕ) (old : Buffers) (ρ κ : Reading) (n : ℕ) → Refusal
 ruleRefusal i o rule condition old ρ κ n =
     cond (badAlphabet i o) Alphabet
     (cond (tooLong rule || tooLong condition) TextLength
@@ -72,7 +74,7 @@ ruleRefusal i o rule condition old ρ κ n =
     (cond (ltb stateLimit n) StateCount Nothing)))))
 
 -- a served call: the formulas of the two texts, the automaton, both tables, the verdict and what it promises
-pub record RuleServed (fair : Bool) (i o : ℕ) (rule condition : List ℕ) (old new : Buffers) (n : ℕ) (can : Bool) : Type 0 where
+pub record RuleServed (mode : Mode) (i o : ℕ) (rule condition : List ℕ) (old new : Buffers) (n : ℕ) (can : Bool) : Type 0 where
   pub formula : Formula
   pub good : IsGood i (ruleKind i o) rule formula
   pub assumption : Formula
@@ -81,13 +83,13 @@ pub record RuleServed (fair : Bool) (i o : ℕ) (rule condition : List ℕ) (old
   pub automaton : Automaton formula (letterCount i o) n (new .transitions) (new .accepting)
   pub transitions-rest : Cleared (n * letterCount i o) (stateLimit * letterCount i o) (old .transitions) (new .transitions)
   pub accepting-rest : Cleared n stateLimit (old .accepting) (new .accepting)
-  pub tables : Tables fair (arena i o n (new .transitions) (new .accepting) (maskOf assumption i)) (old .system) (old .environment) (new .system) (new .environment)
-  pub verdict : Verdict fair (arena i o n (new .transitions) (new .accepting) (maskOf assumption i)) (new .system) (new .environment) 0 can
-  pub can-promise : can ≡ true → Can fair formula (arena i o n (new .transitions) (new .accepting) (maskOf assumption i)) (new .system)
-  pub cannot-promise : can ≡ false → Cannot fair formula (arena i o n (new .transitions) (new .accepting) (maskOf assumption i)) (new .environment)
+  pub tables : Tables mode (arena i o n (new .transitions) (new .accepting) (maskOf assumption i)) (old .system) (old .environment) (new .system) (new .environment)
+  pub verdict : Verdict mode (arena i o n (new .transitions) (new .accepting) (maskOf assumption i)) (new .system) (new .environment) 0 can
+  pub can-promise : can ≡ true → Can mode formula (arena i o n (new .transitions) (new .accepting) (maskOf assumption i)) (new .system)
+  pub cannot-promise : can ≡ false → Cannot mode formula (arena i o n (new .transitions) (new .accepting) (maskOf assumption i)) (new .environment)
 
 -- the whole promise: the specification's number and place, the answer and the four buffers on every input
-pub record RuleSolved (fair : Bool) (i o : ℕ) (rule condition : List ℕ) (old new : Buffers) (r : Answer) : Type 0 where
+pub record RuleSolved (mode : Mode) (i o : ℕ) (rule condition : List ℕ) (old new : Buffers) (r : Answer) : Type 0 where
   pub reading : Reading
   pub read : ReadingOf i (ruleKind i o) rule reading
   pub condition-reading : Reading
@@ -98,7 +100,7 @@ pub record RuleSolved (fair : Bool) (i o : ℕ) (rule condition : List ℕ) (old
   pub first : refusal ≡ ruleRefusal i o rule condition old reading condition-reading states
   pub number : answerNumber r ≡ numberOf refusal
   pub place : answerPlace r ≡ placeOf refusal
-  pub served : refusal ≡ Nothing → (can : Bool) × (r ≡ verdictOf can states) × RuleServed fair i o rule condition old new states can
+  pub served : refusal ≡ Nothing → (can : Bool) × (r ≡ verdictOf can states) × RuleServed mode i o rule condition old new states can
   pub refused : (refusal ≡ Nothing → ⊥) → (r ≡ Refused refusal) × (new .system ≡ old .system) × (new .environment ≡ old .environment)
   pub over : refusal ≡ StateCount → Over i o rule (old .transitions) (old .accepting) (new .transitions) (new .accepting)
   pub untouched : (refusal ≡ Nothing → ⊥) → (refusal ≡ StateCount → ⊥) → (new .transitions ≡ old .transitions) × (new .accepting ≡ old .accepting)

@@ -1,12 +1,20 @@
 // The arena in code: its numbers, and one step on its transitions.
 ghost use mathlib.Core.Path.{_≡_};
 ghost use Prim.Native.Nat.{ℕ, _<_};
+ghost use Rattle.game.specs.inner.Limits.{numberLimit};
 ghost use Rattle.automaton.specs.Bits.{bit};
 ghost use Rattle.plays.specs.Arena.{Arena, next};
 ghost use Rattle.game.specs.inner.Game.{arenaOf, Closed, Entered};
 use automaton::bytes::wide;
 
-// The mode, the condition's mask, and the numbers of states, inputs and outputs.
+// The numbers of states, inputs and outputs.
+pub struct Sizes {
+    pub states: usize,
+    pub inputs: usize,
+    pub outputs: usize,
+}
+
+// A game to be solved: the mode, the condition's mask, and the numbers of states, inputs and outputs.
 pub struct Game {
     pub fair: bool,
     pub mask: u16,
@@ -17,7 +25,7 @@ pub struct Game {
 
 // Whether input x has the condition.
 pub(crate) fn has_condition(mask: u16, x: usize) -> bool
-    requires { ⌜ x < 16 ⌝ }
+    requires { ⌜ x < numberLimit ⌝ }
     ensures { λ r. ⌜ r ≡ bit mask x ⌝ }
 {
     (mask >> x) % 2 == 1

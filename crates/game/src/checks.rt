@@ -2,11 +2,13 @@
 ghost use mathlib.Core.Path.{_≡_};
 ghost use mathlib.Core.Bool.{false};
 ghost use Rattle.automaton.specs.Alphabet.{badAlphabet};
-ghost use Rattle.plays.specs.Arena.{isFair};
-ghost use Rattle.game.specs.inner.Game.{arenaOf};
-ghost use Rattle.game.specs.inner.Checks.{gameOf, InRange};
+ghost use Rattle.plays.specs.inner.Rank.{isFair};
+ghost use Rattle.game.specs.inner.Game.{arenaAt};
+ghost use Rattle.game.specs.inner.Checks.{sizesOf, gameOf, InRange};
 ghost use Rattle.game.specs.Given.{badCount, shortRead};
 use crate::arena::Game;
+use crate::arena::Sizes;
+use crate::limits::STATE_LIMIT;
 use automaton::alphabet::power;
 use plays::mode::Mode;
 
@@ -17,7 +19,7 @@ pub(crate) fn bad_count(n: usize) -> bool
     if n == 0 {
         return true;
     }
-    128 < n
+    STATE_LIMIT < n
 }
 
 // Whether the mode is fair.
@@ -30,32 +32,45 @@ fn is_fair(mode: Mode) -> bool
     }
 }
 
-// The game of n states, i inputs and o outputs.
-pub(crate) fn game_of(mode: Mode, mask: u16, n: usize, i: usize, o: usize) -> Game
+// The sizes of n states, i inputs and o outputs.
+pub(crate) fn sizes_of(n: usize, i: usize, o: usize) -> Sizes
     requires { ⌜ badAlphabet i o ≡ false ⌝ }
-    ensures { λ r. ⌜ r ≡ gameOf (isFair mode) mask n i o ⌝ }
+    ensures { λ r. ⌜ r ≡ sizesOf n i o ⌝ }
 {
     let inputs = power(i);
     let outputs = power(o);
-    let fair = is_fair(mode);
-    Game {
-        fair: fair,
-        mask: mask,
+    Sizes {
         states: n,
         inputs: inputs,
         outputs: outputs,
     }
 }
 
-// Whether the transitions or the flags are too short for the states.
-pub(crate) fn short_read(g: Game, transitions: &[u8], accepting: &[u8]) -> bool
-    requires { ⌜ InRange g ⌝ }
-    ensures { λ r. ⌜ r ≡ shortRead (arenaOf g (now (transitions .entry)) (now (accepting .entry))) ⌝ }
+// The game of n states, i inputs and o outputs.
+pub(crate) fn game_of(mode: Mode, mask: u16, n: usize, i: usize, o: usize) -> Game
+    requires { ⌜ badAlphabet i o ≡ false ⌝ }
+    ensures { λ r. ⌜ r ≡ gameOf (isFair mode) mask n i o ⌝ }
 {
-    let letters = g.inputs * g.outputs;
-    let count = g.states * letters;
+    let sizes = sizes_of(n, i, o);
+    let fair = is_fair(mode);
+    Game {
+        fair: fair,
+        mask: mask,
+        states: sizes.states,
+        inputs: sizes.inputs,
+        outputs: sizes.outputs,
+    }
+}
+
+// Whether the transitions or the flags are too short for the states.
+pub(crate) fn short_read(sizes: Sizes, transitions: &[u8], accepting: &[u8]) -> bool
+    requires { ⌜ InRange sizes ⌝ }
+    ensures { λ r. ⌜ r ≡ shortRead (arenaAt sizes (now (transitions .entry)) (now (accepting .entry)) 0) ⌝ }
+{
+    let letters = sizes.inputs * sizes.outputs;
+    let count = sizes.states * letters;
     if transitions.len() < count {
         return true;
     }
-    accepting.len() < g.states
+    accepting.len() < sizes.states
 }

@@ -5,17 +5,16 @@ ghost use Prim.Native.Nat.{_<_};
 ghost use mathlib.Core.List.{[]};
 ghost use lib.Dec.{eqb};
 ghost use Rattle.plays.specs.Arena.{arena};
-ghost use Rattle.game.specs.inner.Game.{arenaOf};
+ghost use Rattle.game.specs.inner.Game.{arenaAt};
 ghost use Rattle.game.specs.inner.Checks.{InRange};
 ghost use Rattle.game.specs.Given.{shortRead};
 ghost use Rattle.game.specs.Follower.{shortStrategy, movedBy, laterFollowed, FollowedBy};
-use crate::arena::Game;
+use crate::arena::Sizes;
 use crate::checks::bad_count;
-use crate::checks::game_of;
 use crate::checks::short_read;
+use crate::checks::sizes_of;
 use automaton::alphabet::bad_alphabet;
 use automaton::bytes::wide;
-use plays::mode::Mode;
 use reader::refusal::Refusal;
 
 // A place in a play: the state, and whether a goal was entered.
@@ -32,11 +31,11 @@ pub enum Followed {
 }
 
 // Whether the table is too short for the states.
-fn short_strategy(g: Game, system: &[u8]) -> bool
-    requires { ⌜ InRange g ⌝ }
-    ensures { λ r. ⌜ r ≡ shortStrategy (arenaOf g [] []) (now (system .entry)) ⌝ }
+fn short_strategy(sizes: Sizes, system: &[u8]) -> bool
+    requires { ⌜ InRange sizes ⌝ }
+    ensures { λ r. ⌜ r ≡ shortStrategy (arenaAt sizes [] [] 0) (now (system .entry)) ⌝ }
 {
-    let rows = g.states * g.inputs;
+    let rows = sizes.states * sizes.inputs;
     system.len() < rows
 }
 
@@ -59,19 +58,26 @@ impl Position {
     }
 
     // The move by output b, which is in range.
-    fn moved_by(self, g: Game, transitions: &[u8], accepting: &[u8], x: usize, b: u8) -> Followed
-        requires { ⌜ InRange g ⌝ }
-        requires { ⌜ shortRead (arenaOf g (now transitions) (now accepting)) ≡ false ⌝ }
-        requires { ⌜ (self .state < g .states) × (x < g .inputs) × (b < g .outputs) ⌝ }
-        ensures { λ r. ⌜ r ≡ movedBy (arenaOf g (now (transitions .entry)) (now (accepting .entry))) self x b ⌝ }
+    fn moved_by(
+        self,
+        sizes: Sizes,
+        transitions: &[u8],
+        accepting: &[u8],
+        x: usize,
+        b: u8,
+    ) -> Followed
+        requires { ⌜ InRange sizes ⌝ }
+        requires { ⌜ shortRead (arenaAt sizes (now transitions) (now accepting) 0) ≡ false ⌝ }
+        requires { ⌜ (self .state < sizes .states) × (x < sizes .inputs) × (b < sizes .outputs) ⌝ }
+        ensures { λ r. ⌜ r ≡ movedBy (arenaAt sizes (now (transitions .entry)) (now (accepting .entry)) 0) self x b ⌝ }
     {
         let s = self.state;
         let y = wide(b);
-        let inputs = g.inputs;
-        let letters = inputs * g.outputs;
+        let inputs = sizes.inputs;
+        let letters = inputs * sizes.outputs;
         let at = s * letters + (x + inputs * y);
         let t = wide(transitions[at]);
-        if g.states <= t {
+        if sizes.states <= t {
             return Followed::Refused(Refusal::Move(at));
         }
         let next = self.entered(t, accepting[t]);
@@ -81,36 +87,36 @@ impl Position {
     // One step of the table once i, o and n are in range.
     fn step(
         self,
-        g: Game,
+        sizes: Sizes,
         transitions: &[u8],
         accepting: &[u8],
         system: &[u8],
         x: usize,
     ) -> Followed
-        requires { ⌜ InRange g ⌝ }
-        ensures { λ r. ⌜ r ≡ laterFollowed (arenaOf g (now (transitions .entry)) (now (accepting .entry))) (now (system .entry)) self x ⌝ }
+        requires { ⌜ InRange sizes ⌝ }
+        ensures { λ r. ⌜ r ≡ laterFollowed (arenaAt sizes (now (transitions .entry)) (now (accepting .entry)) 0) (now (system .entry)) self x ⌝ }
     {
-        if short_read(g, transitions, accepting) {
+        if short_read(sizes, transitions, accepting) {
             return Followed::Refused(Refusal::Buffer);
         }
-        if short_strategy(g, system) {
+        if short_strategy(sizes, system) {
             return Followed::Refused(Refusal::Buffer);
         }
         let s = self.state;
-        let states = g.states;
+        let states = sizes.states;
         if states <= s {
             return Followed::Refused(Refusal::State);
         }
-        let inputs = g.inputs;
+        let inputs = sizes.inputs;
         if inputs <= x {
             return Followed::Refused(Refusal::Value(0));
         }
         let row = s * inputs + x;
         let b = system[row];
-        if g.outputs <= wide(b) {
+        if sizes.outputs <= wide(b) {
             return Followed::NoRow;
         }
-        self.moved_by(g, transitions, accepting, x, b)
+        self.moved_by(sizes, transitions, accepting, x, b)
     }
 
     // Follows the system's table by one step.
@@ -132,7 +138,7 @@ impl Position {
         if bad_count(n) {
             return Followed::Refused(Refusal::GivenCount);
         }
-        let g = game_of(Mode::Fair, 0, n, i, o);
-        self.step(g, transitions, accepting, system, x)
+        let sizes = sizes_of(n, i, o);
+        self.step(sizes, transitions, accepting, system, x)
     }
 }

@@ -4,15 +4,18 @@ ghost use mathlib.Core.Bool.{not};
 ghost use Prim.Native.Nat.{_/_, _^_, _≤_};
 ghost use mathlib.Core.List.{[]};
 ghost use lib.Dec.{eqb};
-ghost use Rattle.plays.specs.Arena.{arena, isFair};
-ghost use Rattle.game.specs.inner.Game.{arenaOf};
+ghost use Rattle.game.specs.inner.Limits.{numberLimit};
+ghost use Rattle.plays.specs.Arena.{arena};
+ghost use Rattle.game.specs.inner.Game.{arenaAt};
 ghost use Rattle.game.specs.inner.Checks.{InRange};
 ghost use Rattle.game.specs.Given.{shortTables, laterRefusal, givenRefusal, GivenSolved};
 use crate::answer::Answer;
-use crate::arena::Game;
+use crate::arena::Sizes;
 use crate::checks::bad_count;
 use crate::checks::game_of;
 use crate::checks::short_read;
+use crate::checks::sizes_of;
+use crate::limits::STATE_LIMIT;
 use crate::tables::decide;
 use automaton::alphabet::bad_alphabet;
 use automaton::alphabet::first_over;
@@ -20,19 +23,19 @@ use plays::mode::Mode;
 use reader::refusal::Refusal;
 
 // Whether a table is too short for 128 states.
-fn short_tables(g: Game, system: &[u8], environment: &[u8]) -> bool
-    requires { ⌜ InRange g ⌝ }
-    ensures { λ r. ⌜ r ≡ shortTables (arenaOf g [] []) (now (system .entry)) (now (environment .entry)) ⌝ }
+fn short_tables(sizes: Sizes, system: &[u8], environment: &[u8]) -> bool
+    requires { ⌜ InRange sizes ⌝ }
+    ensures { λ r. ⌜ r ≡ shortTables (arenaAt sizes [] [] 0) (now (system .entry)) (now (environment .entry)) ⌝ }
 {
-    if system.len() < 128 * g.inputs {
+    if system.len() < STATE_LIMIT * sizes.inputs {
         return true;
     }
-    environment.len() < 128
+    environment.len() < STATE_LIMIT
 }
 
 // Whether the mask has a bit from place `inputs` up.
 fn bad_mask(mask: u16, inputs: usize) -> bool
-    requires { ⌜ inputs ≤ 16 ⌝ }
+    requires { ⌜ inputs ≤ numberLimit ⌝ }
     ensures { λ r. ⌜ r ≡ not (eqb (mask / 2 ^ inputs) 0) ⌝ }
 {
     let wider = mask as u32;
@@ -41,34 +44,35 @@ fn bad_mask(mask: u16, inputs: usize) -> bool
 
 // The refusal that comes first once i, o and n are in range.
 fn later_refusal(
-    g: Game,
+    sizes: Sizes,
     transitions: &[u8],
     accepting: &[u8],
     start: usize,
+    mask: u16,
     system: &[u8],
     environment: &[u8],
 ) -> Refusal
-    requires { ⌜ InRange g ⌝ }
-    ensures { λ r. ⌜ r ≡ laterRefusal start (arenaOf g (now (transitions .entry)) (now (accepting .entry))) (now (system .entry)) (now (environment .entry)) ⌝ }
+    requires { ⌜ InRange sizes ⌝ }
+    ensures { λ r. ⌜ r ≡ laterRefusal start (arenaAt sizes (now (transitions .entry)) (now (accepting .entry)) mask) (now (system .entry)) (now (environment .entry)) ⌝ }
 {
-    if short_read(g, transitions, accepting) {
+    if short_read(sizes, transitions, accepting) {
         return Refusal::Buffer;
     }
-    if short_tables(g, system, environment) {
+    if short_tables(sizes, system, environment) {
         return Refusal::Buffer;
     }
-    let states = g.states;
+    let states = sizes.states;
     if states <= start {
         return Refusal::State;
     }
-    let inputs = g.inputs;
-    let letters = inputs * g.outputs;
+    let inputs = sizes.inputs;
+    let letters = inputs * sizes.outputs;
     let count = states * letters;
     let k = first_over(&transitions[..count], states);
     if k < count {
         return Refusal::Move(k);
     }
-    if bad_mask(g.mask, inputs) {
+    if bad_mask(mask, inputs) {
         return Refusal::Value(0);
     }
     Refusal::Nothing
@@ -94,8 +98,16 @@ fn given_refusal(
     if bad_count(n) {
         return Refusal::GivenCount;
     }
-    let g = game_of(Mode::Fair, mask, n, i, o);
-    later_refusal(g, transitions, accepting, start, system, environment)
+    let sizes = sizes_of(n, i, o);
+    later_refusal(
+        sizes,
+        transitions,
+        accepting,
+        start,
+        mask,
+        system,
+        environment,
+    )
 }
 
 // Solves the game on a given automaton: refuses what is out of range, or fills both tables and says whether the system wins from the start.
@@ -111,7 +123,7 @@ pub fn solve_given(
     system: &mut [u8],
     environment: &mut [u8],
 ) -> Answer
-    ensures { λ r. ⌜ GivenSolved (isFair mode) i o start (arena i o n (now (transitions .entry)) (now (accepting .entry)) mask) (now (system .entry)) (now (environment .entry)) (now (system .exit)) (now (environment .exit)) r ⌝ }
+    ensures { λ r. ⌜ GivenSolved mode i o start (arena i o n (now (transitions .entry)) (now (accepting .entry)) mask) (now (system .entry)) (now (environment .entry)) (now (system .exit)) (now (environment .exit)) r ⌝ }
 {
     let refusal = given_refusal(
         i,

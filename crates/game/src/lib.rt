@@ -4,6 +4,7 @@ mod arena;
 mod checks;
 pub mod follow;
 pub mod given;
+pub mod limits;
 pub mod rule;
 mod solve;
 mod tables;

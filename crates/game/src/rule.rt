@@ -3,11 +3,11 @@ ghost use mathlib.Core.Path.{_≡_};
 ghost use mathlib.Core.Bool.{false};
 ghost use Rattle.reader.specs.Limits.{tooLong};
 ghost use Rattle.automaton.specs.Alphabet.{badAlphabet};
-ghost use Rattle.plays.specs.Arena.{isFair};
 ghost use Rattle.game.specs.Rule.{Buffers, buffers, shortBuffers, RuleSolved};
 ghost use Rattle.game.specs.inner.RuleChecks.{RuleChecked};
 use crate::answer::Answer;
 use crate::checks::game_of;
+use crate::limits::STATE_LIMIT;
 use crate::tables::decide;
 use automaton::alphabet::bad_alphabet;
 use automaton::alphabet::power;
@@ -41,16 +41,16 @@ fn short_buffers(
     requires { ⌜ badAlphabet i o ≡ false ⌝ }
     ensures { λ r. ⌜ r ≡ shortBuffers i o (buffers (now (transitions .entry)) (now (accepting .entry)) (now (system .entry)) (now (environment .entry))) ⌝ }
 {
-    if transitions.len() < 128 * power(i + o) {
+    if transitions.len() < STATE_LIMIT * power(i + o) {
         return true;
     }
-    if accepting.len() < 128 {
+    if accepting.len() < STATE_LIMIT {
         return true;
     }
-    if system.len() < 128 * power(i) {
+    if system.len() < STATE_LIMIT * power(i) {
         return true;
     }
-    environment.len() < 128
+    environment.len() < STATE_LIMIT
 }
 
 // The refusal by the two texts, once the earlier tests are passed, or the condition's mask.
@@ -129,7 +129,7 @@ pub fn solve_rule(
     system: &mut [u8],
     environment: &mut [u8],
 ) -> Answer
-    ensures { λ r. ⌜ RuleSolved (isFair mode) i o (now (rule .entry)) (now (condition .entry)) (buffers (now (transitions .entry)) (now (accepting .entry)) (now (system .entry)) (now (environment .entry))) (buffers (now (transitions .exit)) (now (accepting .exit)) (now (system .exit)) (now (environment .exit))) r ⌝ }
+    ensures { λ r. ⌜ RuleSolved mode i o (now (rule .entry)) (now (condition .entry)) (buffers (now (transitions .entry)) (now (accepting .entry)) (now (system .entry)) (now (environment .entry))) (buffers (now (transitions .exit)) (now (accepting .exit)) (now (system .exit)) (now (environment .exit))) r ⌝ }
 {
     let checked = check_rule(
         i,

@@ -2,11 +2,16 @@
 use crate::arena::Game;
 use crate::arena::enters;
 use crate::arena::has_condition;
+use crate::limits::NUMBER_LIMIT;
+use crate::limits::RANK_LIMIT;
+use crate::limits::Rank;
+use crate::limits::STATE_LIMIT;
 use automaton::bytes::wide;
 ghost use mathlib.Core.Path.{_≡_};
 ghost use mathlib.Core.Bool.{true, false};
 ghost use Prim.Native.Nat.{_<_, _≤_};
 ghost use lib.ListN.{length};
+ghost use Rattle.automaton.specs.Limits.{stateLimit};
 ghost use Rattle.plays.specs.inner.Rank.{Ranking};
 ghost use Rattle.game.specs.inner.Game.{arenaOf, Valid};
 ghost use Rattle.game.specs.inner.Solver.{
@@ -22,24 +27,21 @@ ghost use Rattle.game.specs.inner.Solver.{
   Promoted,
 };
 
-// A limit above every rank.
-const EVERY_RANK: u8 = 255;
-
 // The ranks of both players, 0 for none.
 pub struct Ranks {
-    pub system: [u8; 128],
-    pub environment: [u8; 128],
+    pub system: [Rank; STATE_LIMIT],
+    pub environment: [Rank; STATE_LIMIT],
 }
 
 // The limits below which a rank counts: for a state that is won, and for one that is lost.
 struct Limits {
-    won: u8,
-    lost: u8,
+    won: Rank,
+    lost: Rank,
 }
 
 // Whether state t has a rank below the limit.
-fn ranked_below(limit: u8, r: &[u8; 128], t: usize) -> bool
-    requires { ⌜ t < 128 ⌝ }
+fn ranked_below(limit: Rank, r: &[Rank; STATE_LIMIT], t: usize) -> bool
+    requires { ⌜ t < stateLimit ⌝ }
     ensures { λ b. ⌜ b ≡ rankedBelow limit (now (r .entry)) t ⌝ }
 {
     let rank = r[t];
@@ -54,8 +56,8 @@ fn serves(
     g: Game,
     transitions: &[u8],
     accepting: &[u8],
-    won: &[u8; 128],
-    lost: &[u8; 128],
+    won: &[Rank; STATE_LIMIT],
+    lost: &[Rank; STATE_LIMIT],
     limits: Limits,
     s: usize,
     x: usize,
@@ -95,11 +97,11 @@ fn unserved(
     g: Game,
     transitions: &[u8],
     accepting: &[u8],
-    won: &[u8; 128],
-    lost: &[u8; 128],
+    won: &[Rank; STATE_LIMIT],
+    lost: &[Rank; STATE_LIMIT],
     limits: Limits,
     s: usize,
-    witness: &mut [u8; 2048],
+    witness: &mut [u8; STATE_LIMIT * NUMBER_LIMIT],
 ) -> usize
     requires { ⌜ Valid (arenaOf g (now transitions) (now accepting)) ⌝ }
     requires { ⌜ s < g .states ⌝ }
@@ -130,8 +132,8 @@ fn unserved(
 }
 
 // Whether state s has neither an outer nor an inner rank.
-fn unranked(outer: &[u8; 128], inner: &[u8; 128], s: usize) -> bool
-    requires { ⌜ s < 128 ⌝ }
+fn unranked(outer: &[Rank; STATE_LIMIT], inner: &[Rank; STATE_LIMIT], s: usize) -> bool
+    requires { ⌜ s < stateLimit ⌝ }
     ensures { λ r. ⌜ (r ≡ true → Unranked (now (outer .entry)) (now (inner .entry)) s) ⌝ }
     ensures { λ r. ⌜ (r ≡ false → Unranked (now (outer .entry)) (now (inner .entry)) s → ⊥) ⌝ }
 {
@@ -146,11 +148,11 @@ fn attracted(
     g: Game,
     transitions: &[u8],
     accepting: &[u8],
-    outer: &[u8; 128],
-    inner: &[u8; 128],
-    p: u8,
+    outer: &[Rank; STATE_LIMIT],
+    inner: &[Rank; STATE_LIMIT],
+    p: Rank,
     s: usize,
-    witness: &mut [u8; 2048],
+    witness: &mut [u8; STATE_LIMIT * NUMBER_LIMIT],
 ) -> bool
     requires { ⌜ Valid (arenaOf g (now transitions) (now accepting)) ⌝ }
     requires { ⌜ s < g .states ⌝ }
@@ -163,7 +165,7 @@ fn attracted(
     let inputs = g.inputs;
     if g.fair {
         let limits = Limits {
-            won: EVERY_RANK,
+            won: RANK_LIMIT,
             lost: p,
         };
         let x = unserved(g, transitions, accepting, outer, inner, limits, s, witness);
@@ -171,7 +173,7 @@ fn attracted(
     } else {
         let limits = Limits {
             won: p,
-            lost: EVERY_RANK,
+            lost: RANK_LIMIT,
         };
         let x = unserved(g, transitions, accepting, inner, outer, limits, s, witness);
         inputs <= x
@@ -183,16 +185,16 @@ fn pass(
     g: Game,
     transitions: &[u8],
     accepting: &[u8],
-    outer: &[u8; 128],
-    inner: &mut [u8; 128],
-    p: u8,
-    witness: &mut [u8; 2048],
+    outer: &[Rank; STATE_LIMIT],
+    inner: &mut [Rank; STATE_LIMIT],
+    p: Rank,
+    witness: &mut [u8; STATE_LIMIT * NUMBER_LIMIT],
 ) -> bool
     requires { ⌜ Valid (arenaOf g (now transitions) (now accepting)) ⌝ }
     requires { ⌜ InnerRanks (g .fair) (arenaOf g (now transitions) (now accepting)) (now outer) (now inner) p ⌝ }
-    requires { ⌜ length (now inner) ≡ 128 ⌝ }
+    requires { ⌜ length (now inner) ≡ stateLimit ⌝ }
     ensures { λ r. ⌜ Passed (g .fair) (arenaOf g (now (transitions .entry)) (now (accepting .entry))) (now (outer .entry)) (now (inner .entry)) (now (inner .exit)) p (g .states) r ⌝ }
-    ensures { λ r. ⌜ length (now (inner .exit)) ≡ 128 ⌝ }
+    ensures { λ r. ⌜ length (now (inner .exit)) ≡ stateLimit ⌝ }
 {
     let states = g.states;
     let mut gave = false;
@@ -212,14 +214,14 @@ fn inner_ranks(
     g: Game,
     transitions: &[u8],
     accepting: &[u8],
-    outer: &[u8; 128],
-    witness: &mut [u8; 2048],
-) -> [u8; 128]
+    outer: &[Rank; STATE_LIMIT],
+    witness: &mut [u8; STATE_LIMIT * NUMBER_LIMIT],
+) -> [Rank; STATE_LIMIT]
     requires { ⌜ Valid (arenaOf g (now transitions) (now accepting)) ⌝ }
     ensures { λ r. ⌜ Attraction (g .fair) (arenaOf g (now (transitions .entry)) (now (accepting .entry))) (now (outer .entry)) r ⌝ }
 {
-    let mut inner: [u8; 128] = [0; 128];
-    let mut p: u8 = 1;
+    let mut inner: [Rank; STATE_LIMIT] = [0; STATE_LIMIT];
+    let mut p: Rank = 1;
     while pass(g, transitions, accepting, outer, &mut inner, p, witness) {
         p += 1;
     }
@@ -227,10 +229,10 @@ fn inner_ranks(
 }
 
 // Gives the outer rank r to each state below n that has no rank, and says whether there was one.
-fn promote(outer: &mut [u8; 128], inner: &[u8; 128], n: usize, r: u8) -> bool
-    requires { ⌜ (n ≤ 128) × (length (now outer) ≡ 128) ⌝ }
+fn promote(outer: &mut [Rank; STATE_LIMIT], inner: &[Rank; STATE_LIMIT], n: usize, r: Rank) -> bool
+    requires { ⌜ (n ≤ stateLimit) × (length (now outer) ≡ stateLimit) ⌝ }
     ensures { λ b. ⌜ Promoted n r (now (outer .entry)) (now (inner .entry)) (now (outer .exit)) b ⌝ }
-    ensures { λ b. ⌜ length (now (outer .exit)) ≡ 128 ⌝ }
+    ensures { λ b. ⌜ length (now (outer .exit)) ≡ stateLimit ⌝ }
 {
     let mut gave = false;
     let mut s: usize = 0;
@@ -245,14 +247,19 @@ fn promote(outer: &mut [u8; 128], inner: &[u8; 128], n: usize, r: u8) -> bool
 }
 
 // The ranks of both players, with the witnesses to begin with: rounds until one gives no outer rank.
-fn rounds(g: Game, transitions: &[u8], accepting: &[u8], witness: &mut [u8; 2048]) -> Ranks
+fn rounds(
+    g: Game,
+    transitions: &[u8],
+    accepting: &[u8],
+    witness: &mut [u8; STATE_LIMIT * NUMBER_LIMIT],
+) -> Ranks
     requires { ⌜ Valid (arenaOf g (now transitions) (now accepting)) ⌝ }
     ensures { λ r. ⌜ Ranking (g .fair) (arenaOf g (now (transitions .entry)) (now (accepting .entry))) (r .system) (r .environment) ⌝ }
 {
     let states = g.states;
-    let mut outer: [u8; 128] = [0; 128];
-    let mut r: u8 = 1;
-    let mut inner: [u8; 128] = inner_ranks(g, transitions, accepting, &outer, witness);
+    let mut outer: [Rank; STATE_LIMIT] = [0; STATE_LIMIT];
+    let mut r: Rank = 1;
+    let mut inner: [Rank; STATE_LIMIT] = inner_ranks(g, transitions, accepting, &outer, witness);
     while promote(&mut outer, &inner, states, r) {
         r += 1;
         inner = inner_ranks(g, transitions, accepting, &outer, witness);
@@ -274,6 +281,6 @@ pub(crate) fn solve(g: Game, transitions: &[u8], accepting: &[u8]) -> Ranks
     requires { ⌜ Valid (arenaOf g (now transitions) (now accepting)) ⌝ }
     ensures { λ r. ⌜ Ranking (g .fair) (arenaOf g (now (transitions .entry)) (now (accepting .entry))) (r .system) (r .environment) ⌝ }
 {
-    let mut witness: [u8; 2048] = [0; 2048];
+    let mut witness: [u8; STATE_LIMIT * NUMBER_LIMIT] = [0; STATE_LIMIT * NUMBER_LIMIT];
     rounds(g, transitions, accepting, &mut witness)
 }

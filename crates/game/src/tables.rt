@@ -3,8 +3,9 @@ ghost use mathlib.Core.Path.{_≡_};
 ghost use mathlib.Core.Bool.{Bool, true, false, not};
 ghost use Prim.Native.Nat.{ℕ, _*_, _<_, _≤_};
 ghost use lib.ListN.{length, getD};
+ghost use Rattle.automaton.specs.Limits.{stateLimit};
 ghost use Rattle.plays.specs.Arena.{Arena};
-ghost use Rattle.plays.specs.inner.Rank.{Ranked, Ranking};
+ghost use Rattle.plays.specs.inner.Rank.{modeOf, Ranked, Ranking};
 ghost use Rattle.game.specs.inner.Game.{arenaOf, Valid};
 ghost use Rattle.game.specs.Tables.{Tables, Verdict};
 ghost use Rattle.game.specs.inner.Bytes.{
@@ -21,10 +22,14 @@ ghost use Rattle.game.specs.inner.Bytes.{
 use crate::arena::Game;
 use crate::arena::enters;
 use crate::arena::has_condition;
+use crate::limits::NO_MOVE;
+use crate::limits::RANK_LIMIT;
+use crate::limits::Rank;
+use crate::limits::STATE_LIMIT;
 use crate::solve::solve;
 
 // The largest rank that is allowed after a step from a state of rank `own`.
-fn limit(steady: bool, judged: bool, own: u8) -> u8
+fn limit(steady: bool, judged: bool, own: Rank) -> Rank
     requires { ⌜ 0 < own ⌝ }
     ensures { λ r. ⌜ r ≡ limitOf steady judged own ⌝ }
 {
@@ -34,12 +39,12 @@ fn limit(steady: bool, judged: bool, own: u8) -> u8
     if steady {
         return own;
     }
-    255
+    RANK_LIMIT
 }
 
 // Whether state t has a rank, and one that is at most `most`.
-fn is_below(ranks: &[u8; 128], most: u8, t: usize) -> bool
-    requires { ⌜ t < 128 ⌝ }
+fn is_below(ranks: &[Rank; STATE_LIMIT], most: Rank, t: usize) -> bool
+    requires { ⌜ t < stateLimit ⌝ }
     ensures { λ r. ⌜ IsBelow (now (ranks .entry)) most t r ⌝ }
 {
     let rank = ranks[t];
@@ -54,8 +59,8 @@ fn first_output(
     g: Game,
     transitions: &[u8],
     accepting: &[u8],
-    ranks: &[u8; 128],
-    most: u8,
+    ranks: &[Rank; STATE_LIMIT],
+    most: Rank,
     s: usize,
     x: usize,
 ) -> usize
@@ -84,8 +89,8 @@ fn is_safe(
     g: Game,
     transitions: &[u8],
     accepting: &[u8],
-    ranks: &[u8; 128],
-    most: u8,
+    ranks: &[Rank; STATE_LIMIT],
+    most: Rank,
     s: usize,
     x: usize,
 ) -> bool
@@ -113,18 +118,18 @@ fn system_byte(
     g: Game,
     transitions: &[u8],
     accepting: &[u8],
-    ranks: &[u8; 128],
+    ranks: &[Rank; STATE_LIMIT],
     s: usize,
     x: usize,
 ) -> u8
     requires { ⌜ Valid (arenaOf g (now transitions) (now accepting)) ⌝ }
     requires { ⌜ Ranked (arenaOf g (now transitions) (now accepting)) true (g .fair) (now ranks) ⌝ }
-    requires { ⌜ (s < 128) × (x < g .inputs) ⌝ }
+    requires { ⌜ (s < stateLimit) × (x < g .inputs) ⌝ }
     ensures { λ r. ⌜ SystemByte (g .fair) (arenaOf g (now (transitions .entry)) (now (accepting .entry))) (now (ranks .entry)) s x r ⌝ }
 {
     let own = ranks[s];
     if own == 0 {
-        return 255;
+        return NO_MOVE;
     }
     let judged = has_condition(g.mask, x);
     let most = limit(g.fair, judged, own);
@@ -137,8 +142,8 @@ fn first_input(
     g: Game,
     transitions: &[u8],
     accepting: &[u8],
-    ranks: &[u8; 128],
-    own: u8,
+    ranks: &[Rank; STATE_LIMIT],
+    own: Rank,
     s: usize,
 ) -> usize
     requires { ⌜ Valid (arenaOf g (now transitions) (now accepting)) ⌝ }
@@ -165,31 +170,37 @@ fn environment_byte(
     g: Game,
     transitions: &[u8],
     accepting: &[u8],
-    ranks: &[u8; 128],
+    ranks: &[Rank; STATE_LIMIT],
     s: usize,
 ) -> u8
     requires { ⌜ Valid (arenaOf g (now transitions) (now accepting)) ⌝ }
     requires { ⌜ Ranked (arenaOf g (now transitions) (now accepting)) false (not (g .fair)) (now ranks) ⌝ }
-    requires { ⌜ s < 128 ⌝ }
+    requires { ⌜ s < stateLimit ⌝ }
     ensures { λ r. ⌜ EnvironmentByte (g .fair) (arenaOf g (now (transitions .entry)) (now (accepting .entry))) (now (ranks .entry)) s r ⌝ }
 {
     let own = ranks[s];
     if own == 0 {
-        return 255;
+        return NO_MOVE;
     }
     let x = first_input(g, transitions, accepting, ranks, own, s);
     x as u8
 }
 
 // Fills the system's table for 128 states.
-fn fill_system(g: Game, transitions: &[u8], accepting: &[u8], ranks: &[u8; 128], system: &mut [u8])
+fn fill_system(
+    g: Game,
+    transitions: &[u8],
+    accepting: &[u8],
+    ranks: &[Rank; STATE_LIMIT],
+    system: &mut [u8],
+)
     requires { ⌜ Valid (arenaOf g (now transitions) (now accepting)) ⌝ }
     requires { ⌜ Ranked (arenaOf g (now transitions) (now accepting)) true (g .fair) (now ranks) ⌝ }
-    requires { ⌜ (0 < g .inputs) × (128 * g .inputs ≤ length (now system)) ⌝ }
+    requires { ⌜ (0 < g .inputs) × (stateLimit * g .inputs ≤ length (now system)) ⌝ }
     ensures { λ _. ⌜ SystemFilled (g .fair) (arenaOf g (now (transitions .entry)) (now (accepting .entry))) (now (ranks .entry)) (now (system .entry)) (now (system .exit)) ⌝ }
 {
     let inputs = g.inputs;
-    let total = 128 * inputs;
+    let total = STATE_LIMIT * inputs;
     let mut k: usize = 0;
     while k < total {
         let s = k / inputs;
@@ -204,16 +215,16 @@ fn fill_environment(
     g: Game,
     transitions: &[u8],
     accepting: &[u8],
-    ranks: &[u8; 128],
+    ranks: &[Rank; STATE_LIMIT],
     environment: &mut [u8],
 )
     requires { ⌜ Valid (arenaOf g (now transitions) (now accepting)) ⌝ }
     requires { ⌜ Ranked (arenaOf g (now transitions) (now accepting)) false (not (g .fair)) (now ranks) ⌝ }
-    requires { ⌜ 128 ≤ length (now environment) ⌝ }
+    requires { ⌜ stateLimit ≤ length (now environment) ⌝ }
     ensures { λ _. ⌜ EnvironmentFilled (g .fair) (arenaOf g (now (transitions .entry)) (now (accepting .entry))) (now (ranks .entry)) (now (environment .entry)) (now (environment .exit)) ⌝ }
 {
     let mut s: usize = 0;
-    while s < 128 {
+    while s < STATE_LIMIT {
         environment[s] = environment_byte(g, transitions, accepting, ranks, s);
         s += 1;
     }
@@ -224,15 +235,15 @@ fn fill(
     g: Game,
     transitions: &[u8],
     accepting: &[u8],
-    system_ranks: &[u8; 128],
-    environment_ranks: &[u8; 128],
+    system_ranks: &[Rank; STATE_LIMIT],
+    environment_ranks: &[Rank; STATE_LIMIT],
     system: &mut [u8],
     environment: &mut [u8],
 )
     requires { ⌜ Valid (arenaOf g (now transitions) (now accepting)) ⌝ }
     requires { ⌜ Ranking (g .fair) (arenaOf g (now transitions) (now accepting)) (now «system_ranks») (now «environment_ranks») ⌝ }
-    requires { ⌜ (0 < g .inputs) × (128 * g .inputs ≤ length (now system)) × (128 ≤ length (now environment)) ⌝ }
-    ensures { λ _. ⌜ Tables (g .fair) (arenaOf g (now (transitions .entry)) (now (accepting .entry))) (now (system .entry)) (now (environment .entry)) (now (system .exit)) (now (environment .exit)) ⌝ }
+    requires { ⌜ (0 < g .inputs) × (stateLimit * g .inputs ≤ length (now system)) × (stateLimit ≤ length (now environment)) ⌝ }
+    ensures { λ _. ⌜ Tables (modeOf (g .fair)) (arenaOf g (now (transitions .entry)) (now (accepting .entry))) (now (system .entry)) (now (environment .entry)) (now (system .exit)) (now (environment .exit)) ⌝ }
 {
     fill_system(g, transitions, accepting, system_ranks, system);
     fill_environment(g, transitions, accepting, environment_ranks, environment);
@@ -249,9 +260,9 @@ pub(crate) fn decide(
 ) -> bool
     requires { ⌜ Valid (arenaOf g (now transitions) (now accepting)) ⌝ }
     requires { ⌜ start < g .states ⌝ }
-    requires { ⌜ (0 < g .inputs) × (128 * g .inputs ≤ length (now system)) × (128 ≤ length (now environment)) ⌝ }
-    ensures { λ r. ⌜ Tables (g .fair) (arenaOf g (now (transitions .entry)) (now (accepting .entry))) (now (system .entry)) (now (environment .entry)) (now (system .exit)) (now (environment .exit)) ⌝ }
-    ensures { λ r. ⌜ Verdict (g .fair) (arenaOf g (now (transitions .entry)) (now (accepting .entry))) (now (system .exit)) (now (environment .exit)) start r ⌝ }
+    requires { ⌜ (0 < g .inputs) × (stateLimit * g .inputs ≤ length (now system)) × (stateLimit ≤ length (now environment)) ⌝ }
+    ensures { λ r. ⌜ Tables (modeOf (g .fair)) (arenaOf g (now (transitions .entry)) (now (accepting .entry))) (now (system .entry)) (now (environment .entry)) (now (system .exit)) (now (environment .exit)) ⌝ }
+    ensures { λ r. ⌜ Verdict (modeOf (g .fair)) (arenaOf g (now (transitions .entry)) (now (accepting .entry))) (now (system .exit)) (now (environment .exit)) start r ⌝ }
 {
     let ranks = solve(g, transitions, accepting);
     let system_ranks = ranks.system;
@@ -265,5 +276,5 @@ pub(crate) fn decide(
         system,
         environment,
     );
-    environment[start] == 255
+    environment[start] == NO_MOVE
 }

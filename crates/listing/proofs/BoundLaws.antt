@@ -12,6 +12,7 @@ use lib.ListN.{length, take, drop}
 use lib.Pow.{pow-mono}
 use lib.Seq.{take-all, take-append-seam}
 use borrow.Author.Tests.{eqb-true, eqb-false, ltb-false}
+use Rattle.plays.specs.declared.mode.Mode.{Mode}
 use Rattle.reader.specs.declared.reading.Reading.{Reading}
 use Rattle.reader.specs.declared.reading.Reading.the-variants.{Good, TooLong, Bad, TooManyNodes, TooManyOperators}
 use Rattle.reader.specs.declared.refusal.Refusal.{Refusal}
@@ -75,7 +76,7 @@ alphabet-served : (a : Bool) (x : Refusal) → numberOf (cond a Alphabet x) ≡ 
 alphabet-served true x e = absurd (omega arith)
 alphabet-served false x e = refl
 
-module _ {fair : Bool} {i o : ℕ} {rule condition : List ℕ} {old new : Buffers} {r : Answer} (m : RuleSolved fair i o rule condition old new r) where
+module _ {mode : Mode} {i o : ℕ} {rule condition : List ℕ} {old new : Buffers} {r : Answer} (m : RuleSolved mode i o rule condition old new r) where
   refusal-place : placeOf (m .refusal) ≤ 255
   unfolding ruleRefusal
   refusal-place =
@@ -98,7 +99,7 @@ module _ {fair : Bool} {i o : ℕ} {rule condition : List ℕ} {old new : Buffer
     few-states : m .states ≤ 128
     few-states = served-states i o rule condition old (m .reading) (m .condition-reading) (m .states) (ap numberOf (sym (m .first)) ∙ z)
 
-    served-line : {can : Bool} → RuleServed fair i o rule condition old new (m .states) can → (s : ℕ) → s < m .states → length (stateLine (2 ^ i) (new .accepting) (new .system) (new .environment) s) ≤ 56
+    served-line : {can : Bool} → RuleServed mode i o rule condition old new (m .states) can → (s : ℕ) → s < m .states → length (stateLine (2 ^ i) (new .accepting) (new .system) (new .environment) s) ≤ 56
     served-line v s h =
         let p = few-inputs in
         let q = few-outputs in
@@ -109,7 +110,7 @@ module _ {fair : Bool} {i o : ℕ} {rule condition : List ℕ} {old new : Buffer
         (λ w. environment-length (2 ^ i) p (new .system) (new .environment) s (let b = w .byte in omega arith))
         (v .tables .won s h))
 
-    served-length : (can : Bool) → RuleServed fair i o rule condition old new (m .states) can → length (listing i new (verdictOf can (m .states))) ≤ outputSize
+    served-length : (can : Bool) → RuleServed mode i o rule condition old new (m .states) can → length (listing i new (verdictOf can (m .states))) ≤ outputSize
     served-length true v = verdict-length (2 ^ i) (new .accepting) (new .system) (new .environment) canWord (m .states) (omega arith) few-states (served-line v)
     served-length false v = verdict-length (2 ^ i) (new .accepting) (new .system) (new .environment) cannotWord (m .states) (omega arith) few-states (served-line v)
 

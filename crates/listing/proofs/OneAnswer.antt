@@ -7,6 +7,7 @@ use mathlib.Core.Bool.{Bool, true, false}
 use mathlib.Core.List.{List, _++_}
 use mathlib.Core.Logic.{_⊎_, ⊎-elim}
 use lib.ListN.{length, take, drop, take-append-drop}
+use Rattle.plays.specs.declared.mode.Mode.{Mode}
 use Rattle.game.specs.declared.answer.Answer.{Answer}
 use Rattle.game.specs.declared.answer.Answer.the-variants.{Can, Cannot, Refused}
 use Rattle.game.specs.Answer.{verdictOf}
@@ -19,7 +20,7 @@ use Rattle.listing.specs.Promise.{Answers, Request, Prints, Listed, Resp
 use Rattle.listing.specs.Agreement.{ListingsAgree, ListedAgree}
 use Rattle.listing.proofs.RequestLaws.{one-request}
 
-module _ {input : List ℕ} {i o : ℕ} {fair : Bool} {condition rule : List ℕ} (asks : Asks input i o fair condition rule) (text text′ : List ℕ) where
+module _ {input : List ℕ} {i o : ℕ} {mode : Mode} {condition rule : List ℕ} (asks : Asks input i o mode condition rule) (text text′ : List ℕ) where
   -- two listings of a verdict
   both-verdicts : (can : Bool) (n : ℕ) (new new′ : Buffers) (a : Answer) → RuleAgree (2 ^ i) new new′ (verdictOf can n) a
       → text ≡ listing i new (verdictOf can n) → text′ ≡ listing i new′ a → ListingsAgree input text text′
@@ -27,7 +28,7 @@ module _ {input : List ℕ} {i o : ℕ} {fair : Bool} {condition rule : List ℕ
       record {
         i = i;
         o = o;
-        fair = fair;
+        mode = mode;
         condition = condition;
         rule = rule;
         asks = asks;
@@ -47,14 +48,14 @@ module _ {input : List ℕ} {i o : ℕ} {fair : Bool} {condition rule : List ℕ
   both-listings new new′ (Cannot n) b w e f = _⊎_.inr (both-verdicts false n new new′ b w e f)
   both-listings new new′ (Refused x) b w e f = _⊎_.inl (e ∙ sym (f ∙ ap (listing i new′) (sym (w .answer))))
 
-  both-answers : Answers i o fair condition rule text → Answers i o fair condition rule text′ → (text ≡ text′) ⊎ ListingsAgree input text text′
+  both-answers : Answers i o mode condition rule text → Answers i o mode condition rule text′ → (text ≡ text′) ⊎ ListingsAgree input text text′
   both-answers u v = both-listings (u .new) (v .new) (u .answer) (v .answer) (one-rule (u .solved) (v .solved)) (u .listed) (v .listed)
 
 -- a request is read in one way
 both-requests : {input text text′ : List ℕ} → Request input text → Request input text′ → (text ≡ text′) ⊎ ListingsAgree input text text′
 both-requests {input} {text} {text′} p q =
     let e = one-request (p .asks) (q .asks) in
-    let v : Answers (p .i) (p .o) (p .fair) (p .condition) (p .rule) text′ = rw (e .0, e .1, e .2, e .3, e .4) (q .answers) in
+    let v : Answers (p .i) (p .o) (p .mode) (p .condition) (p .rule) text′ = rw (e .0, e .1, e .2, e .3, e .4) (q .answers) in
     both-answers (p .asks) text text′ (p .answers) v
 
 both-texts : {input text text′ : List ℕ} → Prints input text → Prints input text′ → (text ≡ text′) ⊎ ListingsAgree input text text′

@@ -9,6 +9,7 @@ use native.Mathlib.Omega.{arith}
 use lib.Dec.{eqb, ltb}
 use lib.ListN.{length, take, drop}
 use borrow.Author.Tests.{eqb-true, eqb-false, ltb-false}
+use Rattle.plays.specs.declared.mode.Mode.{Mode}
 use Rattle.reader.specs.declared.reading.Reading.{Reading}
 use Rattle.reader.specs.declared.reading.Reading.the-variants.{Good, TooLong, Bad, TooManyNodes, TooManyOperators}
 use Rattle.reader.specs.declared.refusal.Refusal.{Refusal}
@@ -26,7 +27,7 @@ use Rattle.game.proofs.AnswerLaws.{verdict-states}
 use Rattle.listing.specs.Listing.{listing, malformed}
 use Rattle.listing.specs.Promise.{lent, Listed}
 use Rattle.listing.specs.inner.Rendering.{listingOf}
-use Rattle.listing.specs.inner.Scan.{isRequest, isFairLine, lineEnd, conditionStart, conditionPart, rulePart, digitAt}
+use Rattle.listing.specs.inner.Scan.{isRequest, modeIn, lineEnd, conditionStart, conditionPart, rulePart, digitAt}
 use Rattle.listing.specs.inner.Writing.{written, Writes}
 use Rattle.listing.proofs.FillingLaws.{written-filled, position-least}
 use Rattle.listing.proofs.RequestLaws.{request-asks, asks-request}
@@ -71,8 +72,8 @@ served-states i o rule condition old ρ κ n e =
     (λ f. ltb-false stateLimit n f)
 
 -- an answer has at most 128 states
-pub solved-states : {fair : Bool} {i o : ℕ} {rule condition : List ℕ} {old new : Buffers} {r : Answer} → RuleSolved fair i o rule condition old new r → answerStates r ≤ 128
-solved-states {fair} {i} {o} {rule} {condition} {old} {new} {r} m =
+pub solved-states : {mode : Mode} {i o : ℕ} {rule condition : List ℕ} {old new : Buffers} {r : Answer} → RuleSolved mode i o rule condition old new r → answerStates r ≤ 128
+solved-states {mode} {i} {o} {rule} {condition} {old} {new} {r} m =
     on (eqb (numberOf (m .refusal)) 0)
     (λ t.
     let z : numberOf (m .refusal) ≡ 0 = eqb-true (numberOf (m .refusal)) 0 t in
@@ -109,7 +110,7 @@ listed-refused input out out′ r e w =
 
 module _ (s : List ℕ) (ok : isRequest s ≡ true) where
   pub listed-answer : (old : Buffers) (t a σ τ : List ℕ) (x : Answer) (out out′ : List ℕ) (r : ℕ) → old ≡ lent
-      → RuleSolved (isFairLine s) (digitAt s 0) (digitAt s 2) (rulePart s (conditionStart s)) (conditionPart s (conditionStart s)) old (buffers t a σ τ) x
+      → RuleSolved (modeIn s) (digitAt s 0) (digitAt s 2) (rulePart s (conditionStart s)) (conditionPart s (conditionStart s)) old (buffers t a σ τ) x
       → Writes out 0 (listingOf (digitAt s 0) a σ τ x) out′ r → Listed s out out′ r
   listed-answer old t a σ τ x out out′ r l m w =
       let text : List ℕ = listingOf (digitAt s 0) a σ τ x in
@@ -119,7 +120,7 @@ module _ (s : List ℕ) (ok : isRequest s ≡ true) where
         prints = _⊎_.inl (record {
           i = digitAt s 0;
           o = digitAt s 2;
-          fair = isFairLine s;
+          mode = modeIn s;
           condition = conditionPart s (conditionStart s);
           rule = rulePart s (conditionStart s);
           asks = request-asks s ok;
@@ -130,7 +131,7 @@ module _ (s : List ℕ) (ok : isRequest s ≡ true) where
       }
 
 -- the parts that are handed to the rule call are the request's
-pub asked-parts : (s : List ℕ) (start end to i o : ℕ) (f : Bool) (old new : Buffers) (x : Answer) → start ≡ conditionStart s → end ≡ lineEnd s start → to ≡ lineEnd s (end + 1)
-    → i ≡ digitAt s 0 → o ≡ digitAt s 2 → f ≡ isFairLine s → RuleSolved f i o (take (to - (end + 1)) (drop (end + 1) s)) (take (end - start) (drop start s)) old new x
-    → RuleSolved (isFairLine s) (digitAt s 0) (digitAt s 2) (rulePart s (conditionStart s)) (conditionPart s (conditionStart s)) old new x
+pub asked-parts : (s : List ℕ) (start end to i o : ℕ) (f : Mode) (old new : Buffers) (x : Answer) → start ≡ conditionStart s → end ≡ lineEnd s start → to ≡ lineEnd s (end + 1)
+    → i ≡ digitAt s 0 → o ≡ digitAt s 2 → f ≡ modeIn s → RuleSolved f i o (take (to - (end + 1)) (drop (end + 1) s)) (take (end - start) (drop start s)) old new x
+    → RuleSolved (modeIn s) (digitAt s 0) (digitAt s 2) (rulePart s (conditionStart s)) (conditionPart s (conditionStart s)) old new x
 asked-parts s start end to i o f old new x a b c d e g m = rw (← a, ← b, ← c, ← d, ← e, ← g) m

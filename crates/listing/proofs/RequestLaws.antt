@@ -9,10 +9,14 @@ use lib.Dec.{eqb, ltb, leb}
 use lib.ListN.{length, getD, take, drop, length-drop, length-append, drop-of-length-le}
 use lib.Seq.{drop-drop, drop-append-add, take-append-seam}
 use borrow.Author.Tests.{eq-eqb, eqb-true, lt-ltb, ltb-true, le-leb, leb-true}
+use Rattle.plays.specs.declared.mode.Mode.{Mode}
+use Rattle.plays.specs.declared.mode.Mode.the-variants.{Fair, Stable}
 use Rattle.reader.proofs.BoolLaws.{on, and-true}
+use Rattle.plays.specs.inner.Rank.{isFair, modeOf}
+use Rattle.plays.proofs.ModeLaws.{same-mode}
 use Rattle.listing.specs.Decimal.{digit}
 use Rattle.listing.specs.Input.{newline, blank, inputLimit, fairWord, stableWord, modeWord, Line, Asks}
-use Rattle.listing.specs.inner.Scan.{lineLength, beginsWith, isDigit, digitLine, isFairLine, isStableLine, lineEnd, conditionStart, ruleStart, ruleEnd, hasTexts, hasMode, isRequest, conditionPart, rulePart, digitAt}
+use Rattle.listing.specs.inner.Scan.{lineLength, beginsWith, isDigit, digitLine, isFairLine, isStableLine, modeIn, lineEnd, conditionStart, ruleStart, ruleEnd, hasTexts, hasMode, isRequest, conditionPart, rulePart, digitAt}
 use Rattle.listing.proofs.ScanLaws.{line-split, line-line, line-found, begins-split, begins-length, end-within}
 
 both : (a b : Bool) → a ≡ true → b ≡ true → (a && b) ≡ true
@@ -155,7 +159,7 @@ first-line (a ∷ b ∷ c ∷ e ∷ t) d =
     ∙ ap (λ (n : ℕ). (48 + (a - 48)) ∷ blank ∷ n ∷ e ∷ t) y
     ∙ ap (λ (n : ℕ). (48 + (a - 48)) ∷ blank ∷ (48 + (c - 48)) ∷ n ∷ t) (d .ended)
 
-second-line : (s : List ℕ) → hasMode s ≡ true → drop 4 s ≡ modeWord (isFairLine s) ++ (newline ∷ drop (conditionStart s) s)
+second-line : (s : List ℕ) → hasMode s ≡ true → drop 4 s ≡ modeWord (modeIn s) ++ (newline ∷ drop (conditionStart s) s)
 unfolding conditionStart
 second-line s ok =
     on (isFairLine s)
@@ -174,7 +178,7 @@ start-within s h ok =
     rw e (omega (arith, begins-length (stableWord ++ (newline ∷ [])) (drop 4 s) g, length-drop 4 s)))
 
 -- an input that passes the tests is a request with the parts that are found
-pub request-asks : (s : List ℕ) → isRequest s ≡ true → Asks s (digitAt s 0) (digitAt s 2) (isFairLine s) (conditionPart s (conditionStart s)) (rulePart s (conditionStart s))
+pub request-asks : (s : List ℕ) → isRequest s ≡ true → Asks s (digitAt s 0) (digitAt s 2) (modeIn s) (conditionPart s (conditionStart s)) (rulePart s (conditionStart s))
 request-asks s ok =
     let d = digits-are s (request-digits s ok) in
     let t = request-texts s ok in
@@ -185,7 +189,7 @@ request-asks s ok =
       text =
           first-line s d
           ∙ ap (λ (l : List ℕ). digit (digitAt s 0) ∷ blank ∷ digit (digitAt s 2) ∷ newline ∷ l)
-          (second-line s (request-mode s ok) ∙ ap (λ (l : List ℕ). modeWord (isFairLine s) ++ (newline ∷ l)) (texts-are s (conditionStart s) t));
+          (second-line s (request-mode s ok) ∙ ap (λ (l : List ℕ). modeWord (modeIn s) ++ (newline ∷ l)) (texts-are s (conditionStart s) t));
       condition-line = condition-line s (conditionStart s) t;
       rule-line = rule-line s (conditionStart s) t;
     }
@@ -198,29 +202,32 @@ digits-found i o t h g =
     (both _ _ refl (both _ _ (both _ _ (le-leb 48 (48 + o) (omega arith)) (le-leb (48 + o) 57 (omega arith))) refl)))
 
 -- what the second line's test finds in a request
-pub mode-found : (s : List ℕ) (i o : ℕ) (fair : Bool) (c r : List ℕ) → Asks s i o fair c r → isFairLine s ≡ fair
+fair-found : (s : List ℕ) (i o : ℕ) (mode : Mode) (c r : List ℕ) → Asks s i o mode c r → isFairLine s ≡ isFair mode
 unfolding beginsWith
-mode-found s i o true c r q = rw (q .text) refl
-mode-found s i o false c r q = rw (q .text) refl
+fair-found s i o Fair c r q = rw (q .text) refl
+fair-found s i o Stable c r q = rw (q .text) refl
 
-has-mode : (s : List ℕ) (i o : ℕ) (fair : Bool) (c r : List ℕ) → Asks s i o fair c r → hasMode s ≡ true
+pub mode-found : (s : List ℕ) (i o : ℕ) (mode : Mode) (c r : List ℕ) → Asks s i o mode c r → modeIn s ≡ mode
+mode-found s i o mode c r q = ap modeOf (fair-found s i o mode c r q) ∙ same-mode mode
+
+has-mode : (s : List ℕ) (i o : ℕ) (mode : Mode) (c r : List ℕ) → Asks s i o mode c r → hasMode s ≡ true
 unfolding beginsWith
-has-mode s i o true c r q = rw (q .text) refl
-has-mode s i o false c r q = rw (q .text) refl
+has-mode s i o Fair c r q = rw (q .text) refl
+has-mode s i o Stable c r q = rw (q .text) refl
 
-texts-found : (s : List ℕ) (i o : ℕ) (fair : Bool) (c r : List ℕ) → Asks s i o fair c r → (conditionStart s ≤ length s) × (drop (conditionStart s) s ≡ texts c r)
+texts-found : (s : List ℕ) (i o : ℕ) (mode : Mode) (c r : List ℕ) → Asks s i o mode c r → (conditionStart s ≤ length s) × (drop (conditionStart s) s ≡ texts c r)
 unfolding conditionStart
-texts-found s i o true c r q = rw (mode-found s i o true c r q) (omega (arith, ap length (q .text)), ap (λ (l : List ℕ). drop 9 l) (q .text))
-texts-found s i o false c r q = rw (mode-found s i o false c r q) (omega (arith, ap length (q .text)), ap (λ (l : List ℕ). drop 11 l) (q .text))
+texts-found s i o Fair c r q = rw (fair-found s i o Fair c r q) (omega (arith, ap length (q .text)), ap (λ (l : List ℕ). drop 9 l) (q .text))
+texts-found s i o Stable c r q = rw (fair-found s i o Stable c r q) (omega (arith, ap length (q .text)), ap (λ (l : List ℕ). drop 11 l) (q .text))
 
 -- every request passes the tests
-pub asks-request : (s : List ℕ) (i o : ℕ) (fair : Bool) (c r : List ℕ) → Asks s i o fair c r → isRequest s ≡ true
+pub asks-request : (s : List ℕ) (i o : ℕ) (mode : Mode) (c r : List ℕ) → Asks s i o mode c r → isRequest s ≡ true
 unfolding isRequest
-asks-request s i o fair c r q =
-    let f = texts-found s i o fair c r q in
+asks-request s i o mode c r q =
+    let f = texts-found s i o mode c r q in
     both _ _ (le-leb (length s) inputLimit (q .short))
     (both _ _ (subst (λ (l : List ℕ). digitLine l ≡ true) (sym (q .text)) (digits-found i o _ (q .inputs) (q .outputs)))
-    (both _ _ (has-mode s i o fair c r q) (has-texts s (conditionStart s) c r (f .0) (f .1) (q .condition-line) (q .rule-line))))
+    (both _ _ (has-mode s i o mode c r q) (has-texts s (conditionStart s) c r (f .0) (f .1) (q .condition-line) (q .rule-line))))
 
 -- where the parts of a request lie
 module _ (s : List ℕ) (ok : isRequest s ≡ true) where
@@ -252,29 +259,29 @@ module _ (s : List ℕ) (a : ℕ) (c r : List ℕ) (within : a ≤ length s) (e 
       rw (n, found-rest s a c r within e cl rl) (take-append-seam r (newline ∷ []))
 
 -- the parts of a request are determined by the input
-pub record Parts (s : List ℕ) (i o : ℕ) (fair : Bool) (c r : List ℕ) : Type 0 where
+pub record Parts (s : List ℕ) (i o : ℕ) (mode : Mode) (c r : List ℕ) : Type 0 where
   pub inputs : i ≡ digitAt s 0
   pub outputs : o ≡ digitAt s 2
-  pub mode : fair ≡ isFairLine s
+  pub mode-is : mode ≡ modeIn s
   pub condition : c ≡ conditionPart s (conditionStart s)
   pub rule : r ≡ rulePart s (conditionStart s)
 
-pub asks-parts : (s : List ℕ) (i o : ℕ) (fair : Bool) (c r : List ℕ) → Asks s i o fair c r → Parts s i o fair c r
-asks-parts s i o fair c r q =
-    let f = texts-found s i o fair c r q in
+pub asks-parts : (s : List ℕ) (i o : ℕ) (mode : Mode) (c r : List ℕ) → Asks s i o mode c r → Parts s i o mode c r
+asks-parts s i o mode c r q =
+    let f = texts-found s i o mode c r q in
     let x : getD s 0 0 ≡ 48 + i = ap (λ (l : List ℕ). getD l 0 0) (q .text) in
     let y : getD s 2 0 ≡ 48 + o = ap (λ (l : List ℕ). getD l 2 0) (q .text) in
     record {
       inputs = omega arith;
       outputs = omega arith;
-      mode = sym (mode-found s i o fair c r q);
+      mode-is = sym (mode-found s i o mode c r q);
       condition = sym (condition-found s (conditionStart s) c r (f .0) (f .1) (q .condition-line) (q .rule-line));
       rule = sym (rule-found s (conditionStart s) c r (f .0) (f .1) (q .condition-line) (q .rule-line));
     }
 
 -- an input has at most one reading
-pub one-request : {s : List ℕ} {i i′ o o′ : ℕ} {fair fair′ : Bool} {c c′ r r′ : List ℕ} → Asks s i o fair c r → Asks s i′ o′ fair′ c′ r′ → (i ≡ i′) × (o ≡ o′) × (fair ≡ fair′) × (c ≡ c′) × (r ≡ r′)
-one-request {s} {i} {i′} {o} {o′} {fair} {fair′} {c} {c′} {r} {r′} p q =
-    let x = asks-parts s i o fair c r p in
-    let y = asks-parts s i′ o′ fair′ c′ r′ q in
-    (x .inputs ∙ sym (y .inputs), x .outputs ∙ sym (y .outputs), x .mode ∙ sym (y .mode), x .condition ∙ sym (y .condition), x .rule ∙ sym (y .rule))
+pub one-request : {s : List ℕ} {i i′ o o′ : ℕ} {mode mode′ : Mode} {c c′ r r′ : List ℕ} → Asks s i o mode c r → Asks s i′ o′ mode′ c′ r′ → (i ≡ i′) × (o ≡ o′) × (mode ≡ mode′) × (c ≡ c′) × (r ≡ r′)
+one-request {s} {i} {i′} {o} {o′} {mode} {mode′} {c} {c′} {r} {r′} p q =
+    let x = asks-parts s i o mode c r p in
+    let y = asks-parts s i′ o′ mode′ c′ r′ q in
+    (x .inputs ∙ sym (y .inputs), x .outputs ∙ sym (y .outputs), x .mode-is ∙ sym (y .mode-is), x .condition ∙ sym (y .condition), x .rule ∙ sym (y .rule))

@@ -48,5 +48,5 @@ read-prints input text p =
     let n = length-take-le inputSize input (omega arith) in
     ⊎-elim
     (λ q. absurd (let s = q .asks .short in omega arith))
-    (λ q. _⊎_.inr (record { none = λ i o fair condition rule a. let s = a .short in omega arith; refused = q .refused }))
+    (λ q. _⊎_.inr (record { none = λ i o mode condition rule a. let s = a .short in omega arith; refused = q .refused }))
     p)

@@ -9,6 +9,7 @@ use mathlib.Core.Bool.{Bool}
 use mathlib.Core.List.{List, _++_}
 use mathlib.Core.Logic.{_⊎_}
 use lib.ListN.{length, take, drop}
+use Rattle.plays.specs.declared.mode.Mode.{Mode}
 use Rattle.game.specs.Answer.{verdictOf}
 use Rattle.game.specs.Rule.{Buffers}
 use Rattle.game.specs.Agreement.{RuleAgree}
@@ -19,10 +20,10 @@ use Rattle.listing.specs.Listing.{listing}
 pub record ListingsAgree (input text text′ : List ℕ) : Type 0 where
   pub i : ℕ
   pub o : ℕ
-  pub fair : Bool
+  pub mode : Mode
   pub condition : List ℕ
   pub rule : List ℕ
-  pub asks : Asks input i o fair condition rule
+  pub asks : Asks input i o mode condition rule
   pub can : Bool
   pub n : ℕ
   pub new : Buffers

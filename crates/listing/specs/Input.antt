@@ -4,9 +4,10 @@
 -- Assumes nothing.
 use Prim.Native.Nat.{ℕ, _≤_}
 use mathlib.Core.Path.{_≡_}
-use mathlib.Core.Bool.{Bool, cond}
 use mathlib.Core.List.{List, [], _∷_, _++_}
 use lib.ListN.{length}
+use Rattle.plays.specs.declared.mode.Mode.{Mode}
+use Rattle.plays.specs.declared.mode.Mode.the-variants.{Fair, Stable}
 use Rattle.listing.specs.Decimal.{digit}
 
 abbrev pub inputLimit : ℕ
@@ -26,8 +27,9 @@ fairWord = 102 ∷ 97 ∷ 105 ∷ 114 ∷ []
 abbrev pub stableWord : List ℕ
 stableWord = 115 ∷ 116 ∷ 97 ∷ 98 ∷ 108 ∷ 101 ∷ []
 
-abbrev pub modeWord : Bool → List ℕ
-modeWord fair = cond fair fairWord stableWord
+abbrev pub modeWord : Mode → List ℕ
+modeWord Fair = fairWord
+modeWord Stable = stableWord
 
 -- no byte ends a line
 unfoldable pub Line : List ℕ → Type 0
@@ -35,10 +37,10 @@ Line [] = Unit {0}
 Line (b ∷ bytes) = (b ≡ newline → ⊥) × Line bytes
 
 -- the input asks for i inputs, o outputs, the mode, the condition and the rule
-pub record Asks (input : List ℕ) (i o : ℕ) (fair : Bool) (condition rule : List ℕ) : Type 0 where
+pub record Asks (input : List ℕ) (i o : ℕ) (mode : Mode) (condition rule : List ℕ) : Type 0 where
   pub short : length input ≤ inputLimit
   pub inputs : i ≤ 9
   pub outputs : o ≤ 9
-  pub text : input ≡ digit i ∷ blank ∷ digit o ∷ newline ∷ (modeWord fair ++ (newline ∷ (condition ++ (newline ∷ (rule ++ (newline ∷ []))))))
+  pub text : input ≡ digit i ∷ blank ∷ digit o ∷ newline ∷ (modeWord mode ++ (newline ∷ (condition ++ (newline ∷ (rule ++ (newline ∷ []))))))
   pub condition-line : Line condition
   pub rule-line : Line rule

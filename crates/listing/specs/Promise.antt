@@ -3,10 +3,10 @@
 -- Assumes nothing.
 use Prim.Native.Nat.{ℕ, suc, min}
 use mathlib.Core.Path.{_≡_}
-use mathlib.Core.Bool.{Bool}
 use mathlib.Core.List.{List, _++_}
 use mathlib.Core.Logic.{_⊎_}
 use lib.ListN.{length, take, drop, replicate}
+use Rattle.plays.specs.declared.mode.Mode.{Mode}
 use Rattle.game.specs.declared.answer.Answer.{Answer}
 use Rattle.game.specs.Rule.{Buffers, buffers, RuleSolved}
 use Rattle.listing.specs.Input.{inputLimit, Asks}
@@ -17,25 +17,25 @@ unfoldable pub lent : Buffers
 lent = buffers (replicate {A = ℕ} 32768 0) (replicate {A = ℕ} 128 0) (replicate {A = ℕ} 2048 0) (replicate {A = ℕ} 128 0)
 
 -- the text is the listing of what the rule call answers on a request
-pub record Answers (i o : ℕ) (fair : Bool) (condition rule text : List ℕ) : Type 0 where
+pub record Answers (i o : ℕ) (mode : Mode) (condition rule text : List ℕ) : Type 0 where
   pub new : Buffers
   pub answer : Answer
-  pub solved : RuleSolved fair i o rule condition lent new answer
+  pub solved : RuleSolved mode i o rule condition lent new answer
   pub listed : text ≡ listing i new answer
 
 -- the input is a request, and the text answers it
 pub record Request (input text : List ℕ) : Type 0 where
   pub i : ℕ
   pub o : ℕ
-  pub fair : Bool
+  pub mode : Mode
   pub condition : List ℕ
   pub rule : List ℕ
-  pub asks : Asks input i o fair condition rule
-  pub answers : Answers i o fair condition rule text
+  pub asks : Asks input i o mode condition rule
+  pub answers : Answers i o mode condition rule text
 
 -- the input is no request, and the text is refusal 14
 pub record NoRequest (input text : List ℕ) : Type 0 where
-  pub none : (i o : ℕ) (fair : Bool) (condition rule : List ℕ) → Asks input i o fair condition rule → ⊥
+  pub none : (i o : ℕ) (mode : Mode) (condition rule : List ℕ) → Asks input i o mode condition rule → ⊥
   pub refused : text ≡ malformed
 
 -- what the program prints for an input

@@ -3,8 +3,7 @@ ghost use mathlib.Core.Path.{_≡_};
 ghost use mathlib.Core.Bool.{true, cond};
 ghost use Prim.Native.Nat.{_≤_, _<_};
 ghost use lib.ListN.{length, getD, drop};
-ghost use Rattle.plays.specs.Arena.{isFair};
-ghost use Rattle.listing.specs.inner.Scan.{beginsWith, lineEnd, isDigit, digitAt, digitLine, isFairLine, isStableLine, conditionStart, hasTexts, isRequest};
+ghost use Rattle.listing.specs.inner.Scan.{beginsWith, lineEnd, isDigit, digitAt, digitLine, isFairLine, isStableLine, modeIn, conditionStart, hasTexts, isRequest};
 use plays::mode::Mode;
 
 // Whether the text from a place on begins with a word.
@@ -91,7 +90,7 @@ fn mode_line(input: &[u8]) -> bool
 // The mode that the second line has.
 pub(crate) fn mode_of(input: &[u8]) -> Mode
     requires { ⌜ 4 ≤ length (now input) ⌝ }
-    ensures { λ r. ⌜ isFair r ≡ isFairLine (now (input .entry)) ⌝ }
+    ensures { λ r. ⌜ r ≡ modeIn (now (input .entry)) ⌝ }
 {
     if begins_with(input, 4, b"fair\n") {
         return Mode::Fair;

@@ -3,7 +3,7 @@ ghost use mathlib.Core.Path.{_≡_};
 ghost use mathlib.Core.Bool.{true};
 ghost use Rattle.game.specs.Rule.{buffers, RuleSolved};
 ghost use Rattle.listing.specs.Promise.{lent, Listed};
-ghost use Rattle.listing.specs.inner.Scan.{isRequest, isFairLine, digitAt, conditionStart, conditionPart, rulePart};
+ghost use Rattle.listing.specs.inner.Scan.{isRequest, modeIn, digitAt, conditionStart, conditionPart, rulePart};
 use crate::input::condition_start;
 use crate::input::digit_at;
 use crate::input::is_request;
@@ -23,7 +23,7 @@ fn ask(
     environment: &mut [u8],
 ) -> Answer
     requires { ⌜ isRequest (now input) ≡ true ⌝ }
-    ensures { λ r. ⌜ RuleSolved (isFairLine (now (input .entry))) (digitAt (now (input .entry)) 0) (digitAt (now (input .entry)) 2) (rulePart (now (input .entry)) (conditionStart (now (input .entry)))) (conditionPart (now (input .entry)) (conditionStart (now (input .entry)))) (buffers (now (transitions .entry)) (now (accepting .entry)) (now (system .entry)) (now (environment .entry))) (buffers (now (transitions .exit)) (now (accepting .exit)) (now (system .exit)) (now (environment .exit))) r ⌝ }
+    ensures { λ r. ⌜ RuleSolved (modeIn (now (input .entry))) (digitAt (now (input .entry)) 0) (digitAt (now (input .entry)) 2) (rulePart (now (input .entry)) (conditionStart (now (input .entry)))) (conditionPart (now (input .entry)) (conditionStart (now (input .entry)))) (buffers (now (transitions .entry)) (now (accepting .entry)) (now (system .entry)) (now (environment .entry))) (buffers (now (transitions .exit)) (now (accepting .exit)) (now (system .exit)) (now (environment .exit))) r ⌝ }
 {
     let start = condition_start(input);
     let end = line_end(input, start);

@@ -13,6 +13,7 @@ use crate::write::put;
 use crate::write::put_decimal;
 use crate::write::put_word;
 use game::answer::Answer;
+use game::limits::NO_MOVE;
 use reader::refusal::number_of;
 use reader::refusal::place_of;
 
@@ -70,7 +71,7 @@ fn put_winner(
     requires { ⌜ (s < 128) × (inputs ≤ 512) ⌝ }
     ensures { λ r. ⌜ Writes (now (out .entry)) at (winnerFields inputs (now (system .entry)) (now (environment .entry)) s) (now (out .exit)) r ⌝ }
 {
-    if byte_at(environment, s) == 255 {
+    if byte_at(environment, s) == NO_MOVE {
         let end = put(out, at, b'S');
         return put_fields(out, end, system, s * inputs, inputs);
     }

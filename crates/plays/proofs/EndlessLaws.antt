@@ -8,6 +8,8 @@ use mathlib.Core.List.{List, [], _∷_, _++_, append-nil}
 use mathlib.Core.Logic.{_⊎_, ⊎-elim}
 use native.Mathlib.Omega.{arith}
 use lib.ListN.{length, take}
+use Rattle.plays.specs.declared.mode.Mode.{Mode}
+use Rattle.plays.specs.declared.mode.Mode.the-variants.{Fair, Stable}
 use Rattle.plays.specs.Arena.{Arena, holds, lacks}
 use Rattle.plays.specs.Play.{Step, count, Every, InRow}
 use Rattle.plays.specs.Strategy.{Assumed, Failed}
@@ -137,9 +139,9 @@ few-finally omniscience c d o (suc b) f few =
 
 module _ (G : Arena) where
   -- a promise that is kept for ever is met in some beginning
-  pub assumed : (fair : Bool) (f : ℕ → Step) → Promised fair G (inputs f) → (k : ℕ) × Assumed fair G (first f k)
-  assumed true f again = often (holds G) (G .states) f again
-  assumed false f always =
+  pub assumed : (mode : Mode) (f : ℕ → Step) → Promised mode G (inputs f) → (k : ℕ) × Assumed mode G (first f k)
+  assumed Fair f again = often (holds G) (G .states) f again
+  assumed Stable f always =
       let m = always .0 in
       let held : (j : ℕ) → holds G (from m f j .input) ≡ true =
       λ j. subst (λ (a : Step). holds G (a .input) ≡ true) (sym (from-is m f j)) (always .1 (m + j) (omega arith)) in
@@ -148,17 +150,17 @@ module _ (G : Arena) where
   holds-unless : (x : ℕ) → lacks G x ≡ false → holds G x ≡ true
   holds-unless x e = not-false→ (holds G x) e
 
-  few : (f : ℕ → Step) → ((k : ℕ) → Failed false G (first f k) → ⊥) → (k : ℕ) → count (lacks G) (first f k) < G .states
+  few : (f : ℕ → Step) → ((k : ℕ) → Failed Stable G (first f k) → ⊥) → (k : ℕ) → count (lacks G) (first f k) < G .states
   few f keeping k = below-or (count (lacks G) (first f k)) (G .states) (λ l. l) (λ l. absurd (keeping k l))
 
   -- a promise that fails in no beginning is kept
-  pub honoured : (fair : Bool) (f : ℕ → Step) → ((k : ℕ) → Failed fair G (first f k) → ⊥) → Honoured fair G (inputs f)
-  honoured true f keeping = λ m.
+  pub honoured : (mode : Mode) (f : ℕ → Step) → ((k : ℕ) → Failed mode G (first f k) → ⊥) → Honoured mode G (inputs f)
+  honoured Fair f keeping = λ m.
       ⊎-elim
       (λ v. absurd (keeping (m + G .states) (row-from (lacks G) f m (G .states) v)))
       (λ w. (m + w .0, omega arith, subst (λ (a : Step). holds G (a .input) ≡ true) (from-is m f (w .0)) (holds-unless (from m f (w .0) .input) (w .1))))
       (every-or-not (lacks G) (from m f) (G .states))
-  honoured false f keeping = (
+  honoured Stable f keeping = (
     few-failures (holds G) (lacks G) (λ x e. rw e) (G .states) f (few f keeping),
     λ omniscience. few-finally omniscience (holds G) (lacks G) holds-unless (G .states) f (few f keeping),
   )

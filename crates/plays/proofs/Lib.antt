@@ -1,4 +1,5 @@
 pub mod CaseLaws
+pub mod ModeLaws
 pub mod PlayLaws
 pub mod RankLaws
 pub mod Determined

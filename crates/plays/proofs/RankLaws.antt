@@ -11,7 +11,7 @@ use lib.ListN.{length, getD}
 use Rattle.plays.specs.Arena.{Arena, next, goal}
 use Rattle.plays.specs.Play.{Step, entered, run, reaches, Along, count, Every, InRow}
 use Rattle.plays.specs.Strategy.{systemByte, environmentByte, BySystem, ByEnvironment, Assumed, Failed, SystemWins, EnvironmentWins}
-use Rattle.plays.specs.inner.Rank.{judged, Safe, Falls, AllowedOutput, AllowedInput}
+use Rattle.plays.specs.inner.Rank.{modeOf, judged, Safe, Falls, AllowedOutput, AllowedInput}
 use Rattle.reader.proofs.BoolLaws.{decided, clash, not-false-is-true}
 use Rattle.plays.proofs.PlayLaws.{along-left, along-right, first-avoids, others-avoid, avoids-left, avoids-right}
 
@@ -72,11 +72,11 @@ module _ (G : Arena) (R : ℕ → Step → Type 0) (player steady : Bool) (r : L
       (often-cases steady (judged G player) (G .states) p o)
 
 -- what makes the mode's claim on a play, as a count of judged inputs
-assumed-often : (fair : Bool) (G : Arena) (p : List Step) → Assumed fair G p → Often fair (judged G true) (G .states) p
+assumed-often : (fair : Bool) (G : Arena) (p : List Step) → Assumed (modeOf fair) G p → Often fair (judged G true) (G .states) p
 assumed-often true G p h = h
 assumed-often false G p h = h
 
-failed-often : (fair : Bool) (G : Arena) (p : List Step) → Failed fair G p → Often (not fair) (judged G false) (G .states) p
+failed-often : (fair : Bool) (G : Arena) (p : List Step) → Failed (modeOf fair) G p → Often (not fair) (judged G false) (G .states) p
 failed-often true G p h = h
 failed-often false G p h = h
 
@@ -92,7 +92,7 @@ module _ (fair : Bool) (G : Arena) (σ r : List ℕ) (bound : (s : ℕ) → getD
       no-goal (goal G (entered G s a)) e
       (subst (λ (y : ℕ). Safe G true (next G s (a .input) y) (Falls G true fair r s (a .input) (next G s (a .input) y))) (sym (h .1)) (allowed s w (a .input) (h .0 .0) .1))
 
-  pub system-wins : (s : ℕ) → 0 < getD r s 0 → SystemWins fair G σ s
+  pub system-wins : (s : ℕ) → 0 < getD r s 0 → SystemWins (modeOf fair) G σ s
   system-wins s w =
       record {
         reaching = λ p h o. not-false-is-true (reaches G s p) (λ e. not-often G (BySystem G σ) true fair r system-falls bound s p w h e (assumed-often fair G p o));
@@ -114,7 +114,7 @@ module _ (fair : Bool) (G : Arena) (τ r : List ℕ) (bound : (s : ℕ) → getD
   environment-falls : (s : ℕ) (a : Step) → 0 < getD r s 0 → ByEnvironment G τ s a → goal G (entered G s a) ≡ false → Falls G false (not fair) r s (a .input) (entered G s a)
   environment-falls s a w h e = environment-step s a w h .1
 
-  pub environment-wins : (s : ℕ) → 0 < getD r s 0 → EnvironmentWins fair G τ s
+  pub environment-wins : (s : ℕ) → 0 < getD r s 0 → EnvironmentWins (modeOf fair) G τ s
   environment-wins s w =
       record {
         avoiding = λ p h. avoids s p w h;

@@ -7,6 +7,8 @@ use mathlib.Core.Bool.{Bool, true, false}
 use mathlib.Core.List.{List, [], _∷_}
 use mathlib.Core.Logic.{_⊎_, ⊎-elim}
 use lib.ListN.{length}
+use Rattle.plays.specs.declared.mode.Mode.{Mode}
+use Rattle.plays.specs.declared.mode.Mode.the-variants.{Fair, Stable}
 use Rattle.plays.specs.Arena.{Arena, goal, holds}
 use Rattle.plays.specs.Play.{Step, entered, run, reaches, Along}
 use Rattle.plays.specs.Strategy.{systemByte, environmentByte, BySystem, ByEnvironment, SystemWins, EnvironmentWins}
@@ -30,11 +32,11 @@ input-ordered x ω zero = refl
 input-ordered x ω (suc j) = input-ordered (λ i. x (suc i)) (systemAfter (meeting (ordered x) ω) ω) j
 
 -- so a promise that the order keeps is kept on the play
-promised-ordered : (fair : Bool) (G : Arena) (x : ℕ → ℕ) (ω : SystemWay) → Promised fair G x → Promised fair G (inputs (meet (ordered x) ω))
-promised-ordered true G x ω p = λ m.
+promised-ordered : (mode : Mode) (G : Arena) (x : ℕ → ℕ) (ω : SystemWay) → Promised mode G x → Promised mode G (inputs (meet (ordered x) ω))
+promised-ordered Fair G x ω p = λ m.
     let w = p m in
     (w .0, w .1, subst (λ (z : ℕ). holds G z ≡ true) (sym (input-ordered x ω (w .0))) (w .2))
-promised-ordered false G x ω p = (p .0, λ j h. subst (λ (z : ℕ). holds G z ≡ true) (sym (input-ordered x ω j)) (p .1 j h))
+promised-ordered Stable G x ω p = (p .0, λ j h. subst (λ (z : ℕ). holds G z ≡ true) (sym (input-ordered x ω j)) (p .1 j h))
 
 -- a step is what its numbers are
 same-step : (a : Step) (x y : ℕ) → a .input ≡ x → a .output ≡ y → a ≡ record { input = x; output = y }
@@ -52,14 +54,14 @@ module _ (G : Arena) where
   unfolding Along
   before-goal R s a p h l e r = ((h, l), reaches-later G s a p e ∙ r)
 
-  module _ (fair : Bool) (σ : List ℕ) where
+  module _ (mode : Mode) (σ : List ℕ) where
     -- the step that a way of the environment makes with a strategy that wins
-    system-step : (s : ℕ) (α : EnvironmentWay) → Inputs G α → SystemWins fair G σ s → BySystem G σ s (meeting α (bySystem G σ s))
+    system-step : (s : ℕ) (α : EnvironmentWay) → Inputs G α → SystemWins mode G σ s → BySystem G σ s (meeting α (bySystem G σ s))
     unfolding Along reaches run
     system-step s α legal w = ((legal [], w .answers [] tt refl (α []) (legal [])), refl)
 
     -- k steps of the play follow the strategy, or some of them do and reach a goal
-    system-made : (k s : ℕ) (α : EnvironmentWay) → Inputs G α → SystemWins fair G σ s
+    system-made : (k s : ℕ) (α : EnvironmentWay) → Inputs G α → SystemWins mode G σ s
         → Along G (BySystem G σ) s (first (meet α (bySystem G σ s)) k)
         ⊎ ((j : ℕ) × Along G (BySystem G σ) s (first (meet α (bySystem G σ s)) j) × Reaching G s (first (meet α (bySystem G σ s)) j))
     unfolding Along run first meet
@@ -73,34 +75,34 @@ module _ (G : Arena) where
         (λ l. _⊎_.inl (h, l))
         (λ m. let z = before-goal (BySystem G σ) s a (first (meet (environmentAfter a α) (bySystem G σ (entered G s a))) (m .0)) h (m .1) e (m .2) in
         _⊎_.inr (suc (m .0), z .0, z .1))
-        (system-made k (entered G s a) (environmentAfter a α) (λ past. legal (a ∷ past)) (system-later fair G σ s a h e w)))
+        (system-made k (entered G s a) (environmentAfter a α) (λ past. legal (a ∷ past)) (system-later mode G σ s a h e w)))
 
     -- whatever the environment does, it is beaten where it keeps its promise
-    system-ways : (s : ℕ) → SystemWins fair G σ s → (α : EnvironmentWay) → Inputs G α → Promised fair G (inputs (meet α (bySystem G σ s)))
+    system-ways : (s : ℕ) → SystemWins mode G σ s → (α : EnvironmentWay) → Inputs G α → Promised mode G (inputs (meet α (bySystem G σ s)))
         → Kept G σ s (Reaching G s) (meet α (bySystem G σ s))
     system-ways s w α legal promised =
         let f = meet α (bySystem G σ s) in
-        let b = assumed G fair f promised in
+        let b = assumed G mode f promised in
         ⊎-elim (λ l. (b .0, l, w .reaching (first f (b .0)) l (b .1))) (λ m. m) (system-made (b .0) s α legal w)
 
-    pub system-endless : (s : ℕ) → SystemWins fair G σ s → CanEndless fair G σ s (Reaching G s)
+    pub system-endless : (s : ℕ) → SystemWins mode G σ s → CanEndless mode G σ s (Reaching G s)
     system-endless s w =
         record {
-          orders = λ x legal promised. system-ways s w (ordered x) (λ past. legal (length past)) (promised-ordered fair G x (bySystem G σ s) promised);
+          orders = λ x legal promised. system-ways s w (ordered x) (λ past. legal (length past)) (promised-ordered mode G x (bySystem G σ s) promised);
           ways = system-ways s w;
-          plays = λ f follows promised. let b = assumed G fair f promised in (b .0, follows (b .0), w .reaching (first f (b .0)) (follows (b .0)) (b .1));
+          plays = λ f follows promised. let b = assumed G mode f promised in (b .0, follows (b .0), w .reaching (first f (b .0)) (follows (b .0)) (b .1));
         }
 
-  module _ (fair : Bool) (τ : List ℕ) where
+  module _ (mode : Mode) (τ : List ℕ) where
     -- the play that a way of the system makes with a strategy that wins follows the strategy
-    environment-made : (k s : ℕ) (ω : SystemWay) → Outputs G ω → EnvironmentWins fair G τ s → Along G (ByEnvironment G τ) s (first (meet (byEnvironment G τ s) ω) k)
+    environment-made : (k s : ℕ) (ω : SystemWay) → Outputs G ω → EnvironmentWins mode G τ s → Along G (ByEnvironment G τ) s (first (meet (byEnvironment G τ s) ω) k)
     unfolding Along reaches run first meet
     environment-made zero s ω legal w = tt
     environment-made (suc k) s ω legal w =
         let a : Step = meeting (byEnvironment G τ s) ω in
         let h : ByEnvironment G τ s a = ((w .answers [] tt, legal [] (environmentByte τ s)), refl) in
         let e : goal G (entered G s a) ≡ false = or-left (goal G (entered G s a)) false (w .avoiding (a ∷ []) (h, tt)) in
-        (h, environment-made k (entered G s a) (systemAfter a ω) (λ past. legal (a ∷ past)) (environment-later fair G τ s a h e w))
+        (h, environment-made k (entered G s a) (systemAfter a ω) (λ past. legal (a ∷ past)) (environment-later mode G τ s a h e w))
 
     -- and no other play of its length does, with the same way
     only-made : (s : ℕ) (ω : SystemWay) (p : List Step) → Along G (ByEnvironment G τ) s p → Chosen ω p → p ≡ first (meet (byEnvironment G τ s) ω) (length p)
@@ -111,15 +113,15 @@ module _ (G : Arena) where
         ap (λ (q : List Step). a ∷ q) (only-made (entered G s a) (systemAfter a ω) p (h .1) (c .1))
         ∙ ap (λ (b : Step). b ∷ first (meet (environmentAfter b (byEnvironment G τ s)) (systemAfter b ω)) (length p)) e
 
-    defeated : (s : ℕ) → EnvironmentWins fair G τ s → (f : ℕ → Step) → Follows G (ByEnvironment G τ) s f → Defeated fair G (Reaching G s) f
+    defeated : (s : ℕ) → EnvironmentWins mode G τ s → (f : ℕ → Step) → Follows G (ByEnvironment G τ) s f → Defeated mode G (Reaching G s) f
     defeated s w f follows =
         record {
           never = λ k r. clash (reaches G s (first f k)) r (w .avoiding (first f k) (follows k));
-          promised = honoured G fair f (λ k. w .keeping (first f k) (follows k));
+          promised = honoured G mode f (λ k. w .keeping (first f k) (follows k));
           keeping = λ k. w .keeping (first f k) (follows k);
         }
 
-    pub environment-endless : (s : ℕ) → EnvironmentWins fair G τ s → CannotEndless fair G τ s (Reaching G s)
+    pub environment-endless : (s : ℕ) → EnvironmentWins mode G τ s → CannotEndless mode G τ s (Reaching G s)
     environment-endless s w =
         record {
           plays = defeated s w;

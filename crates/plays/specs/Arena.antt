@@ -9,8 +9,20 @@ use lib.Dec.{eqb}
 use lib.ListN.{getD}
 use Rattle.automaton.specs.Alphabet.{letterOf}
 use Rattle.automaton.specs.Bits.{bit}
-use Rattle.plays.specs.declared.mode.Mode.{Mode}
-use Rattle.plays.specs.declared.mode.Mode.the-variants.{Fair, Stable}
+
+-- states, inputs and outputs are numbers
+abbrev pub State : Type 0
+State = ℕ
+
+abbrev pub Input : Type 0
+Input = ℕ
+
+abbrev pub Output : Type 0
+Output = ℕ
+
+-- the two players
+pub data Player : Type 0 where
+  system environment : Player
 
 -- n states, 2^i input and 2^o output numbers, the transitions, the accepting flags and the assumption as a mask: the specification's moves, marks and condition
 pub record Arena : Type 0 where
@@ -22,31 +34,26 @@ pub record Arena : Type 0 where
   pub mask : ℕ
 
 -- the arena of i inputs and o outputs
-abbrev pub arena : ℕ → ℕ → ℕ → List ℕ → List ℕ → ℕ → Arena
+abbrev pub arena : (i o n : ℕ) (transitions accepting : List ℕ) (mask : ℕ) → Arena
 arena i o n transitions accepting mask =
     record { states = n; inputs = 2 ^ i; outputs = 2 ^ o; transitions = transitions; accepting = accepting; mask = mask }
 
 -- the index of the transition from state s by input x and output y
-abbrev pub moveIndex : Arena → ℕ → ℕ → ℕ → ℕ
+abbrev pub moveIndex : (G : Arena) (s : State) (x : Input) (y : Output) → ℕ
 moveIndex G s x y = s * (G .inputs * G .outputs) + letterOf (G .inputs) x y
 
 -- the state to which it leads
-unfoldable pub next : Arena → ℕ → ℕ → ℕ → ℕ
+unfoldable pub next : (G : Arena) (s : State) (x : Input) (y : Output) → State
 next G s x y = getD (G .transitions) (moveIndex G s x y) 0
 
 -- an accepting state, which the specification calls a goal: any flag but 0
-unfoldable pub goal : Arena → ℕ → Bool
+unfoldable pub goal : Arena → State → Bool
 goal G s = not (eqb (getD (G .accepting) s 0) 0)
 
 -- whether input x has the condition: bit x of the mask
-unfoldable pub holds : Arena → ℕ → Bool
+unfoldable pub holds : Arena → Input → Bool
 unfolding bit
 holds G x = bit (G .mask) x
 
-abbrev pub lacks : Arena → ℕ → Bool
+abbrev pub lacks : Arena → Input → Bool
 lacks G x = not (holds G x)
-
--- the mode: fair, the condition holds again and again, or stable, from some step on it holds always
-abbrev pub isFair : Mode → Bool
-isFair Fair = Bool.true
-isFair Stable = Bool.false

@@ -8,9 +8,11 @@ use mathlib.Core.Bool.{Bool, true, false}
 use mathlib.Core.List.{List, [], _∷_}
 use mathlib.Core.Logic.{_⊎_}
 use lib.ListN.{length}
-use Rattle.plays.specs.Arena.{Arena, holds}
+use Rattle.plays.specs.declared.mode.Mode.{Mode}
+use Rattle.plays.specs.declared.mode.Mode.the-variants.{Fair, Stable}
+use Rattle.plays.specs.Arena.{State, Input, Arena, holds}
 use Rattle.plays.specs.Play.{Step, reaches, Along}
-use Rattle.plays.specs.Strategy.{BySystem, ByEnvironment, Failed}
+use Rattle.plays.specs.Strategy.{Table, BySystem, ByEnvironment, Failed}
 use Rattle.plays.specs.Way.{SystemWay, EnvironmentWay, Outputs, Inputs, bySystem, byEnvironment, ordered, meet, Chosen}
 
 -- the first k steps of a play without end
@@ -19,25 +21,25 @@ first f zero = []
 first f (suc k) = f 0 ∷ first (λ j. f (suc j)) k
 
 -- every beginning of it, from state s, is a play that R allows
-abbrev pub Follows : Arena → (ℕ → Step → Type 0) → ℕ → (ℕ → Step) → Type 0
+abbrev pub Follows : (G : Arena) (R : State → Step → Type 0) (s : State) (f : ℕ → Step) → Type 0
 Follows G R s f = (k : ℕ) → Along G R s (first f k)
 
 -- the inputs of a play without end, which are an order of inputs: one for each step
-abbrev pub inputs : (ℕ → Step) → ℕ → ℕ
+abbrev pub inputs : (ℕ → Step) → ℕ → Input
 inputs f j = f j .input
 
 -- in the order x, inputs that pass c come again and again: from every step on there is one
-abbrev pub Again : (ℕ → Bool) → (ℕ → ℕ) → Type 0
+abbrev pub Again : (Input → Bool) → (ℕ → Input) → Type 0
 Again c x = (m : ℕ) → (j : ℕ) × (m ≤ j) × (c (x j) ≡ true)
 
 -- from some step on every input passes c
-abbrev pub Finally : (ℕ → Bool) → (ℕ → ℕ) → Type 0
+abbrev pub Finally : (Input → Bool) → (ℕ → Input) → Type 0
 Finally c x = (m : ℕ) × ((j : ℕ) → m ≤ j → c (x j) ≡ true)
 
 -- the environment's promise is kept by the order x
-abbrev pub Promised : Bool → Arena → (ℕ → ℕ) → Type 0
-Promised true G x = Again (holds G) x
-Promised false G x = Finally (holds G) x
+abbrev pub Promised : Mode → Arena → (ℕ → Input) → Type 0
+Promised Fair G x = Again (holds G) x
+Promised Stable G x = Finally (holds G) x
 
 -- a test on numbers passes somewhere or nowhere. Ordinary mathematics takes it so (the limited principle of omniscience); this logic, which assumes nothing,
 -- does not, since no program can tell which
@@ -45,41 +47,41 @@ abbrev pub Omniscience : Type 0
 Omniscience = (d : ℕ → Bool) → ((j : ℕ) × (d j ≡ true)) ⊎ ((j : ℕ) → d j ≡ false)
 
 -- what is proved of a promise that is kept: fair, that it is kept; stable, that it is not broken, and that it is kept if a test passes somewhere or nowhere
-abbrev pub Honoured : Bool → Arena → (ℕ → ℕ) → Type 0
-Honoured true G x = Promised true G x
-Honoured false G x = ((Promised false G x → ⊥) → ⊥) × (Omniscience → Promised false G x)
+abbrev pub Honoured : Mode → Arena → (ℕ → Input) → Type 0
+Honoured Fair G x = Promised Fair G x
+Honoured Stable G x = ((Promised Stable G x → ⊥) → ⊥) × (Omniscience → Promised Stable G x)
 
 -- a step of the beginning enters a goal
-abbrev pub Reaching : Arena → ℕ → List Step → Type 0
+abbrev pub Reaching : Arena → State → List Step → Type 0
 Reaching G s p = reaches G s p ≡ true
 
 -- a beginning of the play without end is done, by which `Done` says that it does what it has to, and up to there it follows the system's strategy: so the
 -- strategy had an output wherever one was needed
-abbrev pub Kept : Arena → List ℕ → ℕ → (List Step → Type 0) → (ℕ → Step) → Type 0
+abbrev pub Kept : (G : Arena) (σ : Table) (s : State) (Done : List Step → Type 0) (f : ℕ → Step) → Type 0
 Kept G σ s Done f = (k : ℕ) × Along G (BySystem G σ) s (first f k) × Done (first f k)
 
 -- "can"
-pub record CanEndless (fair : Bool) (G : Arena) (σ : List ℕ) (s : ℕ) (Done : List Step → Type 0) : Type 0 where
+pub record CanEndless (mode : Mode) (G : Arena) (σ : Table) (s : State) (Done : List Step → Type 0) : Type 0 where
   -- whatever the order of inputs, without end, that keeps the environment's promise: on the play that it makes with the system's strategy a beginning is done
-  pub orders : (x : ℕ → ℕ) → ((j : ℕ) → x j < G .inputs) → Promised fair G x → Kept G σ s Done (meet (ordered x) (bySystem G σ s))
+  pub orders : (x : ℕ → Input) → ((j : ℕ) → x j < G .inputs) → Promised mode G x → Kept G σ s Done (meet (ordered x) (bySystem G σ s))
   -- and whatever the environment does, with any memory and in sight of all outputs, if it keeps its promise on the play that it makes with the strategy
-  pub ways : (α : EnvironmentWay) → Inputs G α → Promised fair G (inputs (meet α (bySystem G σ s))) → Kept G σ s Done (meet α (bySystem G σ s))
+  pub ways : (α : EnvironmentWay) → Inputs G α → Promised mode G (inputs (meet α (bySystem G σ s))) → Kept G σ s Done (meet α (bySystem G σ s))
   -- and on every play without end that follows the strategy and on which the environment keeps its promise
-  pub plays : (f : ℕ → Step) → Follows G (BySystem G σ) s f → Promised fair G (inputs f) → Kept G σ s Done f
+  pub plays : (f : ℕ → Step) → Follows G (BySystem G σ) s f → Promised mode G (inputs f) → Kept G σ s Done f
 
 -- no beginning of the play without end is ever done; the environment's promise is kept on it, and none of its beginnings fails the assumption
-pub record Defeated (fair : Bool) (G : Arena) (Done : List Step → Type 0) (f : ℕ → Step) : Type 0 where
+pub record Defeated (mode : Mode) (G : Arena) (Done : List Step → Type 0) (f : ℕ → Step) : Type 0 where
   pub never : (k : ℕ) → Done (first f k) → ⊥
-  pub promised : Honoured fair G (inputs f)
-  pub keeping : (k : ℕ) → Failed fair G (first f k) → ⊥
+  pub promised : Honoured mode G (inputs f)
+  pub keeping : (k : ℕ) → Failed mode G (first f k) → ⊥
 
 -- "cannot"
-pub record CannotEndless (fair : Bool) (G : Arena) (τ : List ℕ) (s : ℕ) (Done : List Step → Type 0) : Type 0 where
+pub record CannotEndless (mode : Mode) (G : Arena) (τ : Table) (s : State) (Done : List Step → Type 0) : Type 0 where
   -- every play without end that follows the environment's strategy is defeated
-  pub plays : (f : ℕ → Step) → Follows G (ByEnvironment G τ) s f → Defeated fair G Done f
+  pub plays : (f : ℕ → Step) → Follows G (ByEnvironment G τ) s f → Defeated mode G Done f
   -- and so is every way of answering, with any memory: the play that it makes with the strategy is defeated; it follows the strategy and the way, and is the
   -- only one of its length that does
-  pub ways : (ω : SystemWay) → Outputs G ω → Defeated fair G Done (meet (byEnvironment G τ s) ω)
+  pub ways : (ω : SystemWay) → Outputs G ω → Defeated mode G Done (meet (byEnvironment G τ s) ω)
   pub made : (ω : SystemWay) → Outputs G ω → Follows G (ByEnvironment G τ) s (meet (byEnvironment G τ s) ω)
   pub chosen : (ω : SystemWay) (k : ℕ) → Chosen ω (first (meet (byEnvironment G τ s) ω) k)
   pub only : (ω : SystemWay) (p : List Step) → Along G (ByEnvironment G τ) s p → Chosen ω p → p ≡ first (meet (byEnvironment G τ s) ω) (length p)

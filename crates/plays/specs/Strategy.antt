@@ -3,45 +3,51 @@
 -- Assumes nothing.
 use Prim.Native.Nat.{ℕ, _+_, _*_, _<_, _≤_}
 use mathlib.Core.Path.{_≡_}
-use mathlib.Core.Bool.{Bool, true, false}
+use mathlib.Core.Bool.{true, false}
 use mathlib.Core.List.{List}
 use lib.ListN.{getD}
-use Rattle.plays.specs.Arena.{Arena, holds, lacks}
+use Rattle.plays.specs.declared.mode.Mode.{Mode}
+use Rattle.plays.specs.declared.mode.Mode.the-variants.{Fair, Stable}
+use Rattle.plays.specs.Arena.{State, Input, Arena, holds, lacks}
 use Rattle.plays.specs.Play.{Step, Legal, run, reaches, Along, count, InRow}
 
+-- a strategy: the bytes of a table
+abbrev pub Table : Type 0
+Table = List ℕ
+
 -- the system's byte for state s and input x
-abbrev pub systemByte : Arena → List ℕ → ℕ → ℕ → ℕ
+abbrev pub systemByte : (G : Arena) (σ : Table) (s : State) (x : Input) → ℕ
 systemByte G σ s x = getD σ (s * G .inputs + x) 0
 
 -- the environment's byte for state s
-abbrev pub environmentByte : List ℕ → ℕ → ℕ
+abbrev pub environmentByte : Table → State → ℕ
 environmentByte τ s = getD τ s 0
 
 -- a step by the system's strategy: its output is the byte for the state and the input
-abbrev pub BySystem : Arena → List ℕ → ℕ → Step → Type 0
+abbrev pub BySystem : (G : Arena) (σ : Table) (s : State) (a : Step) → Type 0
 BySystem G σ s a = Legal G a × (a .output ≡ systemByte G σ s (a .input))
 
 -- a step by the environment's strategy: its input is the byte for the state
-abbrev pub ByEnvironment : Arena → List ℕ → ℕ → Step → Type 0
+abbrev pub ByEnvironment : (G : Arena) (τ : Table) (s : State) (a : Step) → Type 0
 ByEnvironment G τ s a = Legal G a × (a .input ≡ environmentByte τ s)
 
 -- a play on which the system has to reach a goal: fair, the condition at n steps; stable, at n steps in a row
-abbrev pub Assumed : Bool → Arena → List Step → Type 0
-Assumed true G p = G .states ≤ count (holds G) p
-Assumed false G p = InRow (holds G) (G .states) p
+abbrev pub Assumed : Mode → Arena → List Step → Type 0
+Assumed Fair G p = G .states ≤ count (holds G) p
+Assumed Stable G p = InRow (holds G) (G .states) p
 
 -- a play on which the environment has failed its assumption: fair, n steps in a row without the condition; stable, n steps in all without it
-abbrev pub Failed : Bool → Arena → List Step → Type 0
-Failed true G p = InRow (lacks G) (G .states) p
-Failed false G p = G .states ≤ count (lacks G) p
+abbrev pub Failed : Mode → Arena → List Step → Type 0
+Failed Fair G p = InRow (lacks G) (G .states) p
+Failed Stable G p = G .states ≤ count (lacks G) p
 
 -- the system's strategy holds good from s: every play that follows it reaches a goal where it has to, and until then comes to no byte that is no output
-pub record SystemWins (fair : Bool) (G : Arena) (σ : List ℕ) (s : ℕ) : Type 0 where
-  pub reaching : (p : List Step) → Along G (BySystem G σ) s p → Assumed fair G p → reaches G s p ≡ true
-  pub answers : (p : List Step) → Along G (BySystem G σ) s p → reaches G s p ≡ false → (x : ℕ) → x < G .inputs → systemByte G σ (run G s p) x < G .outputs
+pub record SystemWins (mode : Mode) (G : Arena) (σ : Table) (s : State) : Type 0 where
+  pub reaching : (p : List Step) → Along G (BySystem G σ) s p → Assumed mode G p → reaches G s p ≡ true
+  pub answers : (p : List Step) → Along G (BySystem G σ) s p → reaches G s p ≡ false → (x : Input) → x < G .inputs → systemByte G σ (run G s p) x < G .outputs
 
 -- the environment's strategy holds good from s: every play that follows it reaches no goal, keeps the assumption and comes to no byte that is no input
-pub record EnvironmentWins (fair : Bool) (G : Arena) (τ : List ℕ) (s : ℕ) : Type 0 where
+pub record EnvironmentWins (mode : Mode) (G : Arena) (τ : Table) (s : State) : Type 0 where
   pub avoiding : (p : List Step) → Along G (ByEnvironment G τ) s p → reaches G s p ≡ false
-  pub keeping : (p : List Step) → Along G (ByEnvironment G τ) s p → Failed fair G p → ⊥
+  pub keeping : (p : List Step) → Along G (ByEnvironment G τ) s p → Failed mode G p → ⊥
   pub answers : (p : List Step) → Along G (ByEnvironment G τ) s p → environmentByte τ (run G s p) < G .inputs

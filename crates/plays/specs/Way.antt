@@ -5,34 +5,34 @@ use Prim.Native.Nat.{ℕ, zero, suc, _<_}
 use mathlib.Core.Path.{_≡_}
 use mathlib.Core.List.{List, [], _∷_}
 use lib.ListN.{length}
-use Rattle.plays.specs.Arena.{Arena}
+use Rattle.plays.specs.Arena.{State, Input, Output, Arena}
 use Rattle.plays.specs.Play.{Step, run}
-use Rattle.plays.specs.Strategy.{systemByte, environmentByte}
+use Rattle.plays.specs.Strategy.{Table, systemByte, environmentByte}
 
 -- a way of the system: an output for the steps so far and the input
 abbrev pub SystemWay : Type 0
-SystemWay = List Step → ℕ → ℕ
+SystemWay = List Step → Input → Output
 
 -- a way of the environment: an input for the steps so far
 abbrev pub EnvironmentWay : Type 0
-EnvironmentWay = List Step → ℕ
+EnvironmentWay = List Step → Input
 
 -- all its choices are outputs, all its choices are inputs
 abbrev pub Outputs : Arena → SystemWay → Type 0
-Outputs G ω = (past : List Step) (x : ℕ) → ω past x < G .outputs
+Outputs G ω = (past : List Step) (x : Input) → ω past x < G .outputs
 
 abbrev pub Inputs : Arena → EnvironmentWay → Type 0
 Inputs G α = (past : List Step) → α past < G .inputs
 
 -- the ways of two strategies, for plays from state s
-abbrev pub bySystem : Arena → List ℕ → ℕ → SystemWay
+abbrev pub bySystem : Arena → Table → State → SystemWay
 bySystem G σ s past x = systemByte G σ (run G s past) x
 
-abbrev pub byEnvironment : Arena → List ℕ → ℕ → EnvironmentWay
+abbrev pub byEnvironment : Arena → Table → State → EnvironmentWay
 byEnvironment G τ s past = environmentByte τ (run G s past)
 
 -- an order of inputs that is fixed beforehand, an input for each step, is a way of the environment too
-abbrev pub ordered : (ℕ → ℕ) → EnvironmentWay
+abbrev pub ordered : (ℕ → Input) → EnvironmentWay
 ordered x past = x (length past)
 
 -- the first step of two ways, and the ways after a first step

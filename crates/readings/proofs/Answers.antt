@@ -5,6 +5,7 @@ use mathlib.Core.Path.{_≡_, refl, sym, ap₂, _∙_, subst, subst₂}
 use mathlib.Core.Bool.{Bool, true, false}
 use mathlib.Core.List.{List, [], _∷_}
 use borrow.Author.Tests.{le-ltb}
+use Rattle.plays.specs.declared.mode.Mode.{Mode}
 use Rattle.reader.specs.declared.reading.Reading.the-variants.{Good}
 use Rattle.reader.specs.declared.refusal.Refusal.the-variants.{Nothing}
 use Rattle.reader.specs.Formula.{Formula, size}
@@ -16,7 +17,7 @@ use Rattle.automaton.specs.Automaton.{Automaton}
 use Rattle.automaton.specs.Condition.{maskOf, Judges}
 use Rattle.game.specs.declared.answer.Answer.{Answer}
 use Rattle.game.specs.Answer.{verdictOf}
-use Rattle.plays.specs.Arena.{Arena, arena, isFair}
+use Rattle.plays.specs.Arena.{Arena, arena}
 use Rattle.game.specs.Tables.{Tables, Verdict}
 use Rattle.game.specs.Rule.{Buffers, shortBuffers, ruleRefusal, RuleServed}
 use Rattle.plays.proofs.Determined.{one-winner}
@@ -30,19 +31,19 @@ unfolding ReadingOf
 good-reading i kind text φ g = (φ, g, refl)
 
 -- two verdicts on one arena are the same
-same-verdict : (fair : Bool) (φ : Formula) (G : Arena) (σ τ : List ℕ) (told said : Bool) → Verdict fair G σ τ 0 told → VerdictOn said fair φ G → told ≡ said
-same-verdict fair φ G σ τ true true v w = refl
-same-verdict fair φ G σ τ true false v w = absurd (one-winner fair G σ (w .0) 0 (v .system refl .wins) (w .1))
-same-verdict fair φ G σ τ false true v w = absurd (one-winner fair G (w .0) τ 0 (w .1) (v .environment refl .wins))
-same-verdict fair φ G σ τ false false v w = refl
+same-verdict : (mode : Mode) (φ : Formula) (G : Arena) (σ τ : List ℕ) (told said : Bool) → Verdict mode G σ τ 0 told → VerdictOn said mode φ G → told ≡ said
+same-verdict mode φ G σ τ true true v w = refl
+same-verdict mode φ G σ τ true false v w = absurd (one-winner mode G σ (w .0) 0 (v .system refl .wins) (w .1))
+same-verdict mode φ G σ τ false true v w = absurd (one-winner mode G (w .0) τ 0 (w .1) (v .environment refl .wins))
+same-verdict mode φ G σ τ false false v w = refl
 
 -- what the buffers hold after a served call, in the row's terms, where its texts have the formulas φ and κ
 pub record Held (r : Row) (φ κ : Formula) (old new : Buffers) (can : Bool) : Type 0 where
   pub mask : ℕ
   pub judges : Judges κ (r .inputs) mask
   pub automaton : Automaton φ (lettersOf r) (r .count) (new .transitions) (new .accepting)
-  pub tables : Tables (isFair (r .mode)) (arenaFor r (new .transitions) (new .accepting) mask) (old .system) (old .environment) (new .system) (new .environment)
-  pub verdict : Verdict (isFair (r .mode)) (arenaFor r (new .transitions) (new .accepting) mask) (new .system) (new .environment) 0 can
+  pub tables : Tables (r .mode) (arenaFor r (new .transitions) (new .accepting) mask) (old .system) (old .environment) (new .system) (new .environment)
+  pub verdict : Verdict (r .mode) (arenaFor r (new .transitions) (new .accepting) mask) (new .system) (new .environment) 0 can
 
 module _ (r : Row) (reading : RowHolds r) (old new : Buffers) (answer : Answer) (long : shortBuffers (r .inputs) (r .outputs) old ≡ false) (solved : SolvedFor r old new answer) where
   abbrev i : ℕ
@@ -63,7 +64,7 @@ module _ (r : Row) (reading : RowHolds r) (old new : Buffers) (answer : Answer) 
       let f = one-reading i 0 false (r .condition) (solved .condition-read) (good-reading i (conditionKind i) (r .condition) (reading .assumption) (reading .assumed)) in
       solved .first ∙ rw (reading .small, reading .short, long, e, f, same-count, le-ltb stateLimit (r .count) (reading .few))
 
-  held : (can : Bool) → RuleServed (isFair (r .mode)) i o (r .rule) (r .condition) old new (solved .states) can → Held r (reading .formula) (reading .assumption) old new can
+  held : (can : Bool) → RuleServed (r .mode) i o (r .rule) (r .condition) old new (solved .states) can → Held r (reading .formula) (reading .assumption) old new can
   held can s =
       let eφ : s .formula ≡ reading .formula = one-formula i o true (r .rule) (s .good .reads) (reading .good .reads) in
       let eκ : s .assumption ≡ reading .assumption = one-formula i 0 false (r .condition) (s .assumed .reads) (reading .assumed .reads) in
@@ -72,14 +73,14 @@ module _ (r : Row) (reading : RowHolds r) (old new : Buffers) (answer : Answer) 
         mask = mask;
         judges = subst (λ (κ : Formula). Judges κ i mask) eκ (s .judges);
         automaton = subst₂ (λ (φ : Formula) (n : ℕ). Automaton φ (lettersOf r) n (new .transitions) (new .accepting)) eφ same-count (s .automaton);
-        tables = subst (λ (n : ℕ). Tables (isFair (r .mode)) (arena i o n (new .transitions) (new .accepting) mask) (old .system) (old .environment) (new .system) (new .environment)) same-count (s .tables);
-        verdict = subst (λ (n : ℕ). Verdict (isFair (r .mode)) (arena i o n (new .transitions) (new .accepting) mask) (new .system) (new .environment) 0 can) same-count (s .verdict);
+        tables = subst (λ (n : ℕ). Tables (r .mode) (arena i o n (new .transitions) (new .accepting) mask) (old .system) (old .environment) (new .system) (new .environment)) same-count (s .tables);
+        verdict = subst (λ (n : ℕ). Verdict (r .mode) (arena i o n (new .transitions) (new .accepting) mask) (new .system) (new .environment) 0 can) same-count (s .verdict);
       }
 
   -- the verdict is the row's
   verdict-is : (can : Bool) → Held r (reading .formula) (reading .assumption) old new can → can ≡ r .can
   verdict-is can h =
-      same-verdict (isFair (r .mode)) (reading .formula) (arenaFor r (new .transitions) (new .accepting) (h .mask)) (new .system) (new .environment) can (r .can) (h .verdict)
+      same-verdict (r .mode) (reading .formula) (arenaFor r (new .transitions) (new .accepting) (h .mask)) (new .system) (new .environment) can (r .can) (h .verdict)
       (reading .verdict (new .transitions) (new .accepting) (h .mask) (h .automaton) (h .judges))
 
   -- the answer is the row's, and the buffers hold what was promised

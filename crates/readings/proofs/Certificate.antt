@@ -12,7 +12,7 @@ use Rattle.automaton.specs.Alphabet.{badAlphabet}
 use Rattle.automaton.specs.Condition.{maskOf}
 use Rattle.machine.specs.Discovery as machine
 use Rattle.automaton.specs.Discovery.{stateCount}
-use Rattle.plays.specs.Arena.{isFair}
+use Rattle.plays.specs.inner.Rank.{isFair}
 use Rattle.readings.specs.Lists.{transitionsOf, flagsOf}
 use Rattle.readings.specs.Row.{Row, lettersOf, arenaFor}
 use Rattle.readings.proofs.Tree.{Tree, formulaOf, readsBy}

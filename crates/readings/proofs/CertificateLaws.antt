@@ -9,6 +9,7 @@ use lib.Dec.{eqb, leb}
 use lib.ListN.{length, getD}
 use lib.Pow.{pow-pos}
 use borrow.Author.Tests.{eqb-true, leb-true, ltb-false}
+use Rattle.plays.specs.declared.mode.Mode.{Mode}
 use Rattle.reader.specs.Limits.{textLimit, nodeLimit, operatorLimit, tooLong}
 use Rattle.reader.specs.Formula.{Formula, size, operators}
 use Rattle.reader.specs.Marks.{ruleKind, conditionKind}
@@ -22,7 +23,8 @@ use Rattle.automaton.specs.Automaton.{Automaton}
 use Rattle.automaton.specs.Condition.{maskOf, Judges}
 use Rattle.automaton.specs.Discovery.{stateCount}
 use Rattle.automaton.proofs.ConditionLaws.{mask-judges}
-use Rattle.plays.specs.Arena.{isFair}
+use Rattle.plays.specs.inner.Rank.{isFair}
+use Rattle.plays.proofs.ModeLaws.{same-mode}
 use Rattle.readings.specs.Lists.{transitionsOf, flagsOf}
 use Rattle.readings.specs.Row.{Row, lettersOf, arenaFor, VerdictOn, RowHolds, All}
 use Rattle.readings.proofs.Tree.{formulaOf, readsBy}
@@ -114,17 +116,18 @@ module _ (r : Row) (c : Certificate) (e : passes r c ≡ true) where
   -- lists that hold the automaton, and a mask that judges as the condition does
   module _ (t f : List ℕ) (m : ℕ) (B : Automaton φ L (r .count) t f) (J : Judges κ i m) where
     -- the start has a rank, and the certificate's table wins from every state that has one
-    all-won : (0 < getD (c .ranks) 0 0) × ((s : ℕ) → 0 < getD (c .ranks) s 0 → WinsFrom (r .can) (isFair (r .mode)) (arenaFor r t f m) (c .table) s)
+    all-won : (0 < getD (c .ranks) 0 0) × ((s : ℕ) → 0 < getD (c .ranks) s 0 → WinsFrom (r .can) (r .mode) (arenaFor r t f m) (c .table) s)
     unfolding winnerPasses
     all-won =
-        won i (r .outputs) φ (r .count) (maskOf κ i) m (transitionsOf φ L) (flagsOf φ L) t f held B (judge-alike κ i m (maskOf κ i) J judged-so)
-        (r .can) (isFair (r .mode)) (c .table) (c .ranks) (parts .4)
+        subst (λ (d : Mode). (0 < getD (c .ranks) 0 0) × ((s : ℕ) → 0 < getD (c .ranks) s 0 → WinsFrom (r .can) d (arenaFor r t f m) (c .table) s)) (same-mode (r .mode))
+        (won i (r .outputs) φ (r .count) (maskOf κ i) m (transitionsOf φ L) (flagsOf φ L) t f held B (judge-alike κ i m (maskOf κ i) J judged-so)
+        (r .can) (isFair (r .mode)) (c .table) (c .ranks) (parts .4))
 
-    pub ranked-won : (s : ℕ) → 0 < getD (c .ranks) s 0 → WinsFrom (r .can) (isFair (r .mode)) (arenaFor r t f m) (c .table) s
+    pub ranked-won : (s : ℕ) → 0 < getD (c .ranks) s 0 → WinsFrom (r .can) (r .mode) (arenaFor r t f m) (c .table) s
     ranked-won = all-won .1
 
-    start-won : VerdictOn (r .can) (isFair (r .mode)) φ (arenaFor r t f m)
-    start-won = verdict i (r .outputs) φ (r .count) m t f B (r .can) (isFair (r .mode)) (c .table) (all-won .1 0 (all-won .0))
+    start-won : VerdictOn (r .can) (r .mode) φ (arenaFor r t f m)
+    start-won = verdict i (r .outputs) φ (r .count) m t f B (r .can) (r .mode) (c .table) (all-won .1 0 (all-won .0))
 
   -- a row whose certificate passes is a reading
   pub reading : RowHolds r

@@ -11,6 +11,7 @@ use lib.Dec.{eqb}
 use lib.ListN.{length, getD, take, drop}
 use lib.Seq.{take-all}
 use borrow.Author.Tests.{eqb-true, eqb-false}
+use Rattle.plays.specs.declared.mode.Mode.{Mode}
 use Rattle.reader.proofs.BoolLaws.{on}
 use Rattle.reader.specs.Formula.{Formula, size, operators}
 use Rattle.reader.specs.Marks.{kindIn, allowedBy, isTemporalMark, amongOf, markKind, operandOf, unaryOf, binaryOf}
@@ -101,7 +102,7 @@ module _ (old new : Buffers) (h : Held example φ κ old new false) where
   into-goal s x hs hx e = rw (leads s x hs hx ∙ e, flag 2 (omega arith)) refl
 
   -- the environment does not win by input 1 where it leads to the goal
-  not-1 : (s : ℕ) → s < 3 → led s 1 ≡ 2 → EnvironmentState true G (new .system) (new .environment) s → getD (new .environment) s 0 ≡ 0
+  not-1 : (s : ℕ) → s < 3 → led s 1 ≡ 2 → EnvironmentState Fair G (new .system) (new .environment) s → getD (new .environment) s 0 ≡ 0
   not-1 s l e w =
       let byte : ℕ = getD (new .environment) s 0 in
       let b : byte < 2 = w .byte in
@@ -113,12 +114,12 @@ module _ (old new : Buffers) (h : Held example φ κ old new false) where
   byte-0 : (s : ℕ) → s < 3 → 0 < getD (never .ranks) s 0 → led s 1 ≡ 2 → getD (new .environment) s 0 ≡ 0
   byte-0 s l rank e =
       ⊎-elim
-      (λ w. absurd (one-winner true G (new .system) (never .table) s (w .wins) (ranked-won example never passed (new .transitions) (new .accepting) (h .mask) (h .automaton) (h .judges) s rank)))
+      (λ w. absurd (one-winner Fair G (new .system) (never .table) s (w .wins) (ranked-won example never passed (new .transitions) (new .accepting) (h .mask) (h .automaton) (h .judges) s rank)))
       (not-1 s l e)
       (h .tables .won s l)
 
   -- the goal is the system's: both inputs enter it again
-  goal-won : SystemState true G (new .system) (new .environment) 2
+  goal-won : SystemState Fair G (new .system) (new .environment) 2
   goal-won =
       ⊎-elim
       (λ w. w)
@@ -148,7 +149,7 @@ unfolding lent
 long-enough = refl
 
 -- the listing of every answer that the rule call may give
-answers-listing : (text : List ℕ) → Answers 1 0 true (49 ∷ []) (70 ∷ 97 ∷ []) text → text ≡ exampleListing
+answers-listing : (text : List ℕ) → Answers 1 0 Fair (49 ∷ []) (70 ∷ 97 ∷ []) text → text ≡ exampleListing
 answers-listing text q =
     let e = reading-formulas example never passed in
     let w = answered example (reading example never passed) lent (q .new) (q .answer) long-enough (q .solved) in
@@ -156,7 +157,7 @@ answers-listing text q =
     q .listed ∙ ap (λ (x : Answer). listing 1 (q .new) x) (w .0) ∙ lines lent (q .new) h
 
 -- the four lines are a request
-asks : Asks exampleInput 1 0 true (49 ∷ []) (70 ∷ 97 ∷ [])
+asks : Asks exampleInput 1 0 Fair (49 ∷ []) (70 ∷ 97 ∷ [])
 unfolding exampleInput Line
 asks =
     record {
@@ -169,19 +170,19 @@ asks =
     }
 
 -- and no other request, so an answer to one that they are is an answer to it
-moved : (i o : ℕ) (fair : Bool) (c ρ text : List ℕ) → (i ≡ 1) × (o ≡ 0) × (fair ≡ true) × (c ≡ 49 ∷ []) × (ρ ≡ 70 ∷ 97 ∷ []) → Answers i o fair c ρ text → Answers 1 0 true (49 ∷ []) (70 ∷ 97 ∷ []) text
-moved i o fair c ρ text e q =
-    subst (λ (j : ℕ). Answers j 0 true (49 ∷ []) (70 ∷ 97 ∷ []) text) (e .0)
-    (subst (λ (j : ℕ). Answers i j true (49 ∷ []) (70 ∷ 97 ∷ []) text) (e .1)
-    (subst (λ (b : Bool). Answers i o b (49 ∷ []) (70 ∷ 97 ∷ []) text) (e .2)
-    (subst (λ (l : List ℕ). Answers i o fair l (70 ∷ 97 ∷ []) text) (e .3)
-    (subst (λ (l : List ℕ). Answers i o fair c l text) (e .4) q))))
+moved : (i o : ℕ) (mode : Mode) (c ρ text : List ℕ) → (i ≡ 1) × (o ≡ 0) × (mode ≡ Fair) × (c ≡ 49 ∷ []) × (ρ ≡ 70 ∷ 97 ∷ []) → Answers i o mode c ρ text → Answers 1 0 Fair (49 ∷ []) (70 ∷ 97 ∷ []) text
+moved i o mode c ρ text e q =
+    subst (λ (j : ℕ). Answers j 0 Fair (49 ∷ []) (70 ∷ 97 ∷ []) text) (e .0)
+    (subst (λ (j : ℕ). Answers i j Fair (49 ∷ []) (70 ∷ 97 ∷ []) text) (e .1)
+    (subst (λ (m : Mode). Answers i o m (49 ∷ []) (70 ∷ 97 ∷ []) text) (e .2)
+    (subst (λ (l : List ℕ). Answers i o mode l (70 ∷ 97 ∷ []) text) (e .3)
+    (subst (λ (l : List ℕ). Answers i o mode c l text) (e .4) q))))
 
 prints-listing : (text : List ℕ) → Prints exampleInput text → text ≡ exampleListing
 prints-listing text =
     ⊎-elim
-    (λ q. answers-listing text (moved (q .i) (q .o) (q .fair) (q .condition) (q .rule) text (one-request (q .asks) asks) (q .answers)))
-    (λ q. absurd (q .none 1 0 true (49 ∷ []) (70 ∷ 97 ∷ []) asks))
+    (λ q. answers-listing text (moved (q .i) (q .o) (q .mode) (q .condition) (q .rule) text (one-request (q .asks) asks) (q .answers)))
+    (λ q. absurd (q .none 1 0 Fair (49 ∷ []) (70 ∷ 97 ∷ []) asks))
 
 -- the promise of the listing call on the four lines: the output begins with the specification's listing as far as it fits, and the rest of it is as it was
 pub printed-example : {output output′ : List ℕ} {r : ℕ} → Listed exampleInput output output′ r

@@ -4,13 +4,14 @@ use Prim.Native.Nat.{ℕ, _<_}
 use mathlib.Core.Path.{_≡_, refl, ap, _∙_}
 use mathlib.Core.Bool.{Bool, true, false}
 use mathlib.Core.List.{List, [], _∷_}
+use Rattle.plays.specs.declared.mode.Mode.{Mode}
 use Rattle.reader.proofs.BoolLaws.{clash, or-left}
 use Rattle.plays.specs.Arena.{Arena, next, goal}
 use Rattle.plays.specs.Play.{Along, reaches}
 use Rattle.plays.specs.Strategy.{environmentByte}
 use Rattle.game.specs.Tables.{EnvironmentState}
 
-module _ {fair : Bool} {G : Arena} {σ τ : List ℕ} {s : ℕ} (won : EnvironmentState fair G σ τ s) where
+module _ {mode : Mode} {G : Arena} {σ τ : List ℕ} {s : ℕ} (won : EnvironmentState mode G σ τ s) where
   -- no output leads to a goal from a state that the environment wins
   byte-avoids : (y : ℕ) → y < G .outputs → goal G (next G s (environmentByte τ s) y) ≡ false
   unfolding Along reaches

@@ -13,13 +13,14 @@ use borrow.Author.Tests.{ltb-true, leb-true, eqb-true, ltb-false}
 use lib.Dec.{eqb, ltb, leb}
 use lib.ListN.{length, getD, List·getD-eq-default}
 use lib.Pow.{pow-add}
+use Rattle.plays.specs.declared.mode.Mode.{Mode}
 use Rattle.reader.specs.Formula.{Formula}
 use Rattle.reader.proofs.BoolLaws.{on, and-true, or-cases, not-true→}
 use Rattle.automaton.specs.Alphabet.{letterOf, letterCount}
 use Rattle.automaton.specs.Bits.{bit}
 use Rattle.automaton.specs.Automaton.{Automaton}
 use Rattle.plays.specs.Arena.{Arena, arena, next, goal, holds}
-use Rattle.plays.specs.inner.Rank.{judged, Safe, Falls, AllowedOutput, AllowedInput}
+use Rattle.plays.specs.inner.Rank.{modeOf, judged, Safe, Falls, AllowedOutput, AllowedInput}
 use Rattle.plays.specs.Strategy.{systemByte, environmentByte, SystemWins, EnvironmentWins}
 use Rattle.game.proofs.IndexLaws.{letter-below}
 use Rattle.plays.proofs.RankLaws.{system-wins, environment-wins}
@@ -59,9 +60,9 @@ step-true G false steady r s x t e =
     (not-true→ (goal G t) (w .0), falls-true G false steady r s x t (w .1))
 
 -- the player's table wins from s
-abbrev pub WinsFrom : Bool → Bool → Arena → List ℕ → ℕ → Type 0
-WinsFrom true fair G table s = SystemWins fair G table s
-WinsFrom false fair G table s = EnvironmentWins fair G table s
+abbrev pub WinsFrom : Bool → Mode → Arena → List ℕ → ℕ → Type 0
+WinsFrom true mode G table s = SystemWins mode G table s
+WinsFrom false mode G table s = EnvironmentWins mode G table s
 
 -- ---- the test on one arena, used on another that holds the same automaton, and whose mask judges alike
 
@@ -126,7 +127,7 @@ module _ (i o : ℕ) (φ : Formula) (n mask₀ mask : ℕ) (t₀ f₀ t f : List
     state-below s h = omega (arith, inside s h, parts .0)
 
   -- by the system's test it wins from every state that has a rank
-  system-won : (fair : Bool) (σ r : List ℕ) → winsOf true fair G₀ σ r ≡ true → (s : ℕ) → 0 < getD r s 0 → SystemWins fair G σ s
+  system-won : (fair : Bool) (σ r : List ℕ) → winsOf true fair G₀ σ r ≡ true → (s : ℕ) → 0 < getD r s 0 → SystemWins (modeOf fair) G σ s
   unfolding bytesOf outputOf
   system-won fair σ r e = system-wins fair G σ r (bound true fair σ r e) allowed
     where
@@ -138,7 +139,7 @@ module _ (i o : ℕ) (φ : Formula) (n mask₀ mask : ℕ) (t₀ f₀ t f : List
           (hy, step-same true fair r s x y (state-below true fair σ r e s h) hx hy (w .1))
 
   -- and so does the environment by its own
-  environment-won : (fair : Bool) (τ r : List ℕ) → winsOf false fair G₀ τ r ≡ true → (s : ℕ) → 0 < getD r s 0 → EnvironmentWins fair G τ s
+  environment-won : (fair : Bool) (τ r : List ℕ) → winsOf false fair G₀ τ r ≡ true → (s : ℕ) → 0 < getD r s 0 → EnvironmentWins (modeOf fair) G τ s
   unfolding bytesOf inputOf
   environment-won fair τ r e = environment-wins fair G τ r (bound false fair τ r e) allowed
     where
@@ -150,12 +151,12 @@ module _ (i o : ℕ) (φ : Formula) (n mask₀ mask : ℕ) (t₀ f₀ t f : List
           (hx, λ y hy. step-same false (not fair) r s x y (state-below false fair τ r e s h) hx hy (below-at (inputOf fair G₀ τ r s) (2 ^ o) (w .1) y hy))
 
   -- the start has a rank, and the player wins from every state that has one
-  pub won : (player fair : Bool) (table r : List ℕ) → winsOf player fair G₀ table r ≡ true → (0 < getD r 0 0) × ((s : ℕ) → 0 < getD r s 0 → WinsFrom player fair G table s)
+  pub won : (player fair : Bool) (table r : List ℕ) → winsOf player fair G₀ table r ≡ true → (0 < getD r 0 0) × ((s : ℕ) → 0 < getD r s 0 → WinsFrom player (modeOf fair) G table s)
   won true fair table r e = (parts true fair table r e .1, system-won fair table r e)
   won false fair table r e = (parts false fair table r e .1, environment-won fair table r e)
 
 -- the verdict of the player that wins from the start, and with it what it promises of the rule
-pub verdict : (i o : ℕ) (φ : Formula) (n mask : ℕ) (t f : List ℕ) → Automaton φ (letterCount i o) n t f → (player fair : Bool) (table : List ℕ)
-    → WinsFrom player fair (arena i o n t f mask) table 0 → VerdictOn player fair φ (arena i o n t f mask)
-verdict i o φ n mask t f A true fair table w = (table, w, can-keep φ i o n t f mask A fair table w)
-verdict i o φ n mask t f A false fair table w = (table, w, cannot-keep φ i o n t f mask A fair table w)
+pub verdict : (i o : ℕ) (φ : Formula) (n mask : ℕ) (t f : List ℕ) → Automaton φ (letterCount i o) n t f → (player : Bool) (mode : Mode) (table : List ℕ)
+    → WinsFrom player mode (arena i o n t f mask) table 0 → VerdictOn player mode φ (arena i o n t f mask)
+verdict i o φ n mask t f A true mode table w = (table, w, can-keep φ i o n t f mask A mode table w)
+verdict i o φ n mask t f A false mode table w = (table, w, cannot-keep φ i o n t f mask A mode table w)

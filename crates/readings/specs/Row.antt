@@ -1,6 +1,6 @@
 -- What a row of the specification's "Readings" says: on i, o, the text of a rule, a mode and the text of a condition, the verdict and n.
 -- It is said of the texts themselves and by the definitions: the grammar's formulas, the number of reachable states, and the plays on the formula's automaton.
--- Each text has one formula (reader, proofs/Unambiguous: one-formula) and no state is won by both players (game, proofs/Determined: one-winner),
+-- Each text has one formula (reader, proofs/Unambiguous: one-formula) and no state is won by both players (plays, proofs/Determined: one-winner),
 -- so that "can" excludes "cannot". The rows are checked together, as one theorem (specs/Rows.antt, proofs/Readings.antt).
 -- Assumes nothing.
 use Prim.Native.Nat.{ℕ, _≤_}
@@ -19,7 +19,7 @@ use Rattle.automaton.specs.Discovery.{stateCount}
 use Rattle.game.specs.declared.answer.Answer.{Answer}
 use Rattle.plays.specs.declared.mode.Mode.{Mode}
 use Rattle.game.specs.Answer.{verdictOf}
-use Rattle.plays.specs.Arena.{Arena, arena, isFair}
+use Rattle.plays.specs.Arena.{Arena, arena}
 use Rattle.plays.specs.Strategy.{SystemWins, EnvironmentWins}
 use Rattle.game.specs.Rule.{Can, Cannot, Buffers, shortBuffers, RuleSolved}
 use Rattle.readings.specs.Lists.{transitionsOf, flagsOf}
@@ -46,9 +46,9 @@ abbrev pub lettersOf : Row → ℕ
 lettersOf r = letterCount (r .inputs) (r .outputs)
 
 -- the verdict on an arena: a table of the system's that wins from the start and keeps the rule, or one of the environment's
-abbrev pub VerdictOn : Bool → Bool → Formula → Arena → Type 0
-VerdictOn true fair φ G = (σ : List ℕ) × SystemWins fair G σ 0 × Can fair φ G σ
-VerdictOn false fair φ G = (τ : List ℕ) × EnvironmentWins fair G τ 0 × Cannot fair φ G τ
+abbrev pub VerdictOn : Bool → Mode → Formula → Arena → Type 0
+VerdictOn true mode φ G = (σ : List ℕ) × SystemWins mode G σ 0 × Can mode φ G σ
+VerdictOn false mode φ G = (τ : List ℕ) × EnvironmentWins mode G τ 0 × Cannot mode φ G τ
 
 -- the arena of a row: its numbers, and an automaton's lists and a mask
 abbrev pub arenaFor : Row → List ℕ → List ℕ → ℕ → Arena
@@ -68,11 +68,11 @@ pub record RowHolds (r : Row) : Type 0 where
   pub few : r .count ≤ stateLimit
   pub automaton : Automaton formula (lettersOf r) (r .count) (transitionsOf formula (lettersOf r)) (flagsOf formula (lettersOf r))
   pub verdict : (transitions flags : List ℕ) (mask : ℕ) → Automaton formula (lettersOf r) (r .count) transitions flags → Judges assumption (r .inputs) mask
-      → VerdictOn (r .can) (isFair (r .mode)) formula (arenaFor r transitions flags mask)
+      → VerdictOn (r .can) (r .mode) formula (arenaFor r transitions flags mask)
 
 -- the rule call's promise for the row's texts
 abbrev pub SolvedFor : Row → Buffers → Buffers → Answer → Type 0
-SolvedFor r old new answer = RuleSolved (isFair (r .mode)) (r .inputs) (r .outputs) (r .rule) (r .condition) old new answer
+SolvedFor r old new answer = RuleSolved (r .mode) (r .inputs) (r .outputs) (r .rule) (r .condition) old new answer
 
 -- what that promise makes of the row: in buffers that are long enough it answers with this verdict and this n
 abbrev pub Answered : Row → Type 0

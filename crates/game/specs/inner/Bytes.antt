@@ -5,8 +5,9 @@ use mathlib.Core.Path.{_≡_}
 use mathlib.Core.Bool.{Bool, true, false}
 use mathlib.Core.List.{List}
 use lib.ListN.{length, getD}
+use Rattle.game.specs.inner.Limits.{rankLimit}
 use Rattle.automaton.specs.Limits.{stateLimit}
-use Rattle.plays.specs.Arena.{Arena, next}
+use Rattle.plays.specs.Arena.{State, Input, Output, Arena, next}
 use Rattle.plays.specs.inner.Rank.{Safe, AllowedOutput, AllowedInput}
 use Rattle.game.specs.Tables.{noMove}
 
@@ -14,7 +15,7 @@ use Rattle.game.specs.Tables.{noMove}
 abbrev pub limitOf : Bool → Bool → ℕ → ℕ
 limitOf steady true own = own - 1
 limitOf true false own = own
-limitOf false false own = 255
+limitOf false false own = rankLimit
 
 -- state t has a rank, and one that is at most `limit`
 abbrev pub Below : List ℕ → ℕ → ℕ → Type 0
@@ -26,15 +27,15 @@ pub record IsBelow (r : List ℕ) (limit t : ℕ) (b : Bool) : Type 0 where
   pub outside : b ≡ false → Below r limit t → ⊥
 
 -- output y enters a goal, or a state whose rank is at most `limit`
-abbrev pub GoodOutput : Arena → List ℕ → ℕ → ℕ → ℕ → ℕ → Type 0
+abbrev pub GoodOutput : (G : Arena) (r : List ℕ) (limit : ℕ) (s : State) (x : Input) (y : Output) → Type 0
 GoodOutput G r limit s x y = Safe G true (next G s x y) (Below r limit (next G s x y))
 
 -- some output does
-abbrev pub SomeOutput : Arena → List ℕ → ℕ → ℕ → ℕ → Type 0
+abbrev pub SomeOutput : (G : Arena) (r : List ℕ) (limit : ℕ) (s : State) (x : Input) → Type 0
 SomeOutput G r limit s x = (y : ℕ) × (y < G .outputs) × GoodOutput G r limit s x y
 
 -- every output avoids the goals and enters a state whose rank is at most `limit`
-abbrev pub EveryOutput : Arena → List ℕ → ℕ → ℕ → ℕ → Type 0
+abbrev pub EveryOutput : (G : Arena) (r : List ℕ) (limit : ℕ) (s : State) (x : Input) → Type 0
 EveryOutput G r limit s x = (y : ℕ) → y < G .outputs → Safe G false (next G s x y) (Below r limit (next G s x y))
 
 -- b says whether every output does

@@ -2,16 +2,22 @@
 -- Assumes nothing.
 use Prim.Native.Nat.{ℕ, _^_, _<_, _≤_}
 use mathlib.Core.Bool.{Bool}
+use Rattle.game.specs.inner.Limits.{numberLimit}
 use Rattle.automaton.specs.Limits.{stateLimit}
+use Rattle.game.specs.declared.arena.Sizes.{Sizes}
 use Rattle.game.specs.declared.arena.Game.{Game}
 
+-- the sizes of n states, i inputs and o outputs
+abbrev pub sizesOf : ℕ → ℕ → ℕ → Sizes
+sizesOf n i o = record { states = n; inputs = 2 ^ i; outputs = 2 ^ o }
+
 -- the game of n states, i inputs and o outputs
-abbrev pub gameOf : Bool → ℕ → ℕ → ℕ → ℕ → Game
+abbrev pub gameOf : (fair : Bool) (mask n i o : ℕ) → Game
 gameOf fair mask n i o = record { fair = fair; mask = mask; states = n; inputs = 2 ^ i; outputs = 2 ^ o }
 
--- its numbers are in range
-pub record InRange (g : Game) : Type 0 where
-  pub states-fit : g .states ≤ stateLimit
-  pub inputs-fit : g .inputs ≤ 16
-  pub outputs-fit : g .outputs ≤ 16
-  pub inputs-some : 0 < g .inputs
+-- sizes in range
+pub record InRange (sizes : Sizes) : Type 0 where
+  pub states-fit : sizes .states ≤ stateLimit
+  pub inputs-fit : sizes .inputs ≤ numberLimit
+  pub outputs-fit : sizes .outputs ≤ numberLimit
+  pub inputs-some : 0 < sizes .inputs

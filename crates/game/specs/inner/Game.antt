@@ -4,9 +4,23 @@ use Prim.Native.Nat.{ℕ, _*_, _<_, _≤_}
 use mathlib.Core.Path.{_≡_}
 use mathlib.Core.List.{List}
 use lib.ListN.{length, getD}
+use Rattle.game.specs.inner.Limits.{numberLimit}
 use Rattle.automaton.specs.Limits.{stateLimit}
 use Rattle.plays.specs.Arena.{Arena, next}
+use Rattle.game.specs.declared.arena.Sizes.{Sizes}
 use Rattle.game.specs.declared.arena.Game.{Game}
+
+-- the arena that sizes, two buffers and a mask describe
+abbrev pub arenaAt : (sizes : Sizes) (transitions accepting : List ℕ) (mask : ℕ) → Arena
+arenaAt sizes transitions accepting mask =
+    record {
+      states = sizes .states;
+      inputs = sizes .inputs;
+      outputs = sizes .outputs;
+      transitions = transitions;
+      accepting = accepting;
+      mask = mask;
+    }
 
 -- the arena that a game's numbers and two buffers describe
 abbrev pub arenaOf : Game → List ℕ → List ℕ → Arena
@@ -16,8 +30,8 @@ arenaOf g transitions accepting =
 -- the sizes are in range and every transition leads to a state
 pub record Closed (states inputs outputs : ℕ) (transitions : List ℕ) : Type 0 where
   pub states-fit : states ≤ stateLimit
-  pub inputs-fit : inputs ≤ 16
-  pub outputs-fit : outputs ≤ 16
+  pub inputs-fit : inputs ≤ numberLimit
+  pub outputs-fit : outputs ≤ numberLimit
   pub long : states * (inputs * outputs) ≤ length transitions
   pub closed : (k : ℕ) → k < states * (inputs * outputs) → getD transitions k 0 < states
 

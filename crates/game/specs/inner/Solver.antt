@@ -7,12 +7,9 @@ use mathlib.Core.Bool.{Bool, true, false, not, _||_, _&&_}
 use mathlib.Core.List.{List}
 use lib.Dec.{eqb, ltb}
 use lib.ListN.{getD}
-use Rattle.plays.specs.Arena.{Arena, next, goal, lacks}
+use Rattle.game.specs.inner.Limits.{rankLimit}
+use Rattle.plays.specs.Arena.{State, Input, Output, Arena, next, goal, lacks}
 use Rattle.plays.specs.inner.Rank.{judged, Forces}
-
--- a limit above every rank
-abbrev pub everyRank : ℕ
-everyRank = 255
 
 -- whether state t has a rank below the limit
 unfoldable pub rankedBelow : ℕ → List ℕ → ℕ → Bool
@@ -27,11 +24,11 @@ abbrev pub Apart : List ℕ → List ℕ → Type 0
 Apart outer inner = (t : ℕ) → 0 < getD outer t 0 → getD inner t 0 ≡ 0
 
 -- the test on the state t that a step with input x enters: a goal, or a state that is not lost and, where x has the condition, already won
-unfoldable pub servingAt : Arena → (ℕ → Bool) → (ℕ → Bool) → ℕ → ℕ → Bool
+unfoldable pub servingAt : (G : Arena) (won lost : State → Bool) (x : Input) (t : State) → Bool
 servingAt G won lost x t = goal G t || (not (lost t) && (lacks G x || won t))
 
 -- output y serves input x on state s
-abbrev pub serving : Arena → (ℕ → Bool) → (ℕ → Bool) → ℕ → ℕ → ℕ → Bool
+abbrev pub serving : (G : Arena) (won lost : State → Bool) (s : State) (x : Input) (y : Output) → Bool
 serving G won lost s x y = servingAt G won lost x (next G s x y)
 
 -- r is the first input that no output serves, or the number of inputs
@@ -41,16 +38,16 @@ pub record FirstUnserved (G : Arena) (won lost : ℕ → Bool) (s r : ℕ) : Typ
   pub unserved : r < G .inputs → (y : ℕ) → y < G .outputs → serving G won lost s r y ≡ false
 
 -- after input x the entered state t is not lost for the player and, where the input is judged, already won
-abbrev pub Favorable : Arena → Bool → (ℕ → Bool) → (ℕ → Bool) → ℕ → ℕ → Type 0
+abbrev pub Favorable : (G : Arena) (player : Bool) (won lost : State → Bool) (x : Input) (t : State) → Type 0
 Favorable G player won lost x t = (lost t ≡ false) × (judged G player x ≡ true → won t ≡ true)
 
 -- the player of the inner ranks can see to it that the next step is favorable by the inner ranks below p
-abbrev pub Attracts : Bool → Arena → List ℕ → List ℕ → ℕ → ℕ → Type 0
-Attracts fair G outer inner p s = Forces G (not fair) s (Favorable G (not fair) (rankedBelow p inner) (rankedBelow everyRank outer))
+abbrev pub Attracts : (fair : Bool) (G : Arena) (outer inner : List ℕ) (p : ℕ) (s : State) → Type 0
+Attracts fair G outer inner p s = Forces G (not fair) s (Favorable G (not fair) (rankedBelow p inner) (rankedBelow rankLimit outer))
 
 -- the player of the outer ranks can see to it that the next step is favorable against the inner ranks below p
-abbrev pub Keeps : Bool → Arena → List ℕ → List ℕ → ℕ → ℕ → Type 0
-Keeps fair G outer inner p s = Forces G fair s (Favorable G fair (rankedBelow everyRank outer) (rankedBelow p inner))
+abbrev pub Keeps : (fair : Bool) (G : Arena) (outer inner : List ℕ) (p : ℕ) (s : State) → Type 0
+Keeps fair G outer inner p s = Forces G fair s (Favorable G fair (rankedBelow rankLimit outer) (rankedBelow p inner))
 
 -- r says whether pass p gives state s an inner rank
 pub record Attracted (fair : Bool) (G : Arena) (outer inner : List ℕ) (p s : ℕ) (r : Bool) : Type 0 where
@@ -83,7 +80,7 @@ pub record Passed (fair : Bool) (G : Arena) (outer old inner : List ℕ) (p k : 
 -- the inner ranks after the last pass: the player of the outer ranks can keep to the states without one
 pub record Attraction (fair : Bool) (G : Arena) (outer inner : List ℕ) : Type 0 where
   pub ranks : InnerRanks fair G outer inner (G .states + 1)
-  pub keeps : (s : ℕ) → s < G .states → Unranked outer inner s → Keeps fair G outer inner everyRank s
+  pub keeps : (s : ℕ) → s < G .states → Unranked outer inner s → Keeps fair G outer inner rankLimit s
 
 -- the states below n with neither rank got the outer rank r; gave says whether there is one
 pub record Promoted (n r : ℕ) (outer inner new : List ℕ) (gave : Bool) : Type 0 where

@@ -5,6 +5,8 @@ use mathlib.Core.Bool.{Bool, true, false, cond, _&&_}
 use mathlib.Core.List.{List, [], _∷_, _++_}
 use lib.Dec.{eqb, ltb, leb}
 use lib.ListN.{length, getD, take, drop}
+use Rattle.plays.specs.declared.mode.Mode.{Mode}
+use Rattle.plays.specs.inner.Rank.{modeOf}
 use Rattle.listing.specs.Input.{newline, blank, inputLimit, fairWord, stableWord}
 
 -- the bytes before the first 0x0A
@@ -32,6 +34,10 @@ isFairLine input = beginsWith (fairWord ++ (newline ∷ [])) (drop 4 input)
 
 abbrev pub isStableLine : List ℕ → Bool
 isStableLine input = beginsWith (stableWord ++ (newline ∷ [])) (drop 4 input)
+
+-- the mode that the second line has
+abbrev pub modeIn : List ℕ → Mode
+modeIn input = modeOf (isFairLine input)
 
 -- where the line that begins at a place ends
 abbrev pub lineEnd : List ℕ → ℕ → ℕ

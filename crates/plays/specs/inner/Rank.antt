@@ -1,5 +1,5 @@
 -- Ranks: the certificates by which a game is solved, a number for each state and player, each a statement about one step.
--- A player is true for the system and false for the environment.
+-- A player is true for the system and false for the environment, and the mode true for fair: the player of the steady ranks is then the mode.
 -- Assumes nothing.
 use Prim.Native.Nat.{ℕ, _<_, _≤_}
 use mathlib.Core.Path.{_≡_}
@@ -7,33 +7,44 @@ use mathlib.Core.Bool.{Bool, true, false, not}
 use mathlib.Core.List.{List}
 use mathlib.Core.Logic.{_⊎_}
 use lib.ListN.{getD}
-use Rattle.plays.specs.Arena.{Arena, next, goal, holds, lacks}
+use Rattle.plays.specs.declared.mode.Mode.{Mode}
+use Rattle.plays.specs.declared.mode.Mode.the-variants.{Fair, Stable}
+use Rattle.plays.specs.Arena.{State, Input, Output, Arena, next, goal, holds, lacks}
+
+-- the mode as a truth value, and back
+abbrev pub isFair : Mode → Bool
+isFair Fair = true
+isFair Stable = false
+
+abbrev pub modeOf : Bool → Mode
+modeOf true = Fair
+modeOf false = Stable
 
 -- the inputs at which the player's rank has to fall: with the condition for the system, without it for the environment
-abbrev pub judged : Arena → Bool → ℕ → Bool
+abbrev pub judged : Arena → Bool → Input → Bool
 judged G true x = holds G x
 judged G false x = lacks G x
 
 -- what a player asks of the state that a step enters: the system is done at a goal, the environment must avoid it
-abbrev pub Safe : Arena → Bool → ℕ → Type 0 → Type 0
+abbrev pub Safe : (G : Arena) (player : Bool) (t : State) (D : Type 0) → Type 0
 Safe G true t D = (goal G t ≡ true) ⊎ D
 Safe G false t D = (goal G t ≡ false) × D
 
 -- the player can see to it that the next step is to its liking: the system has an output for every input, the environment an input for every output
-abbrev pub Forces : Arena → Bool → ℕ → (ℕ → ℕ → Type 0) → Type 0
+abbrev pub Forces : (G : Arena) (player : Bool) (s : State) (R : Input → State → Type 0) → Type 0
 Forces G true s R = (x : ℕ) → x < G .inputs → (y : ℕ) × (y < G .outputs) × Safe G true (next G s x y) (R x (next G s x y))
 Forces G false s R = (x : ℕ) × (x < G .inputs) × ((y : ℕ) → y < G .outputs → Safe G false (next G s x y) (R x (next G s x y)))
 
 -- after input x on s, the entered state t has a rank, which is lower at a judged input, and which is nowhere higher where the ranks are steady
-abbrev pub Falls : Arena → Bool → Bool → List ℕ → ℕ → ℕ → ℕ → Type 0
+abbrev pub Falls : (G : Arena) (player steady : Bool) (r : List ℕ) (s : State) (x : Input) (t : State) → Type 0
 Falls G player steady r s x t = (0 < getD r t 0) × (judged G player x ≡ true → getD r t 0 < getD r s 0) × (steady ≡ true → getD r t 0 ≤ getD r s 0)
 
 -- the system's ranks allow output y for input x on state s
-abbrev pub AllowedOutput : Bool → Arena → List ℕ → ℕ → ℕ → ℕ → Type 0
+abbrev pub AllowedOutput : (fair : Bool) (G : Arena) (r : List ℕ) (s : State) (x : Input) (y : Output) → Type 0
 AllowedOutput fair G r s x y = (y < G .outputs) × Safe G true (next G s x y) (Falls G true fair r s x (next G s x y))
 
 -- the environment's ranks allow input x on state s
-abbrev pub AllowedInput : Bool → Arena → List ℕ → ℕ → ℕ → Type 0
+abbrev pub AllowedInput : (fair : Bool) (G : Arena) (r : List ℕ) (s : State) (x : Input) → Type 0
 AllowedInput fair G r s x =
     (x < G .inputs) × ((y : ℕ) → y < G .outputs → Safe G false (next G s x y) (Falls G false (not fair) r s x (next G s x y)))
 

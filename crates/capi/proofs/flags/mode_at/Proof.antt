@@ -1,7 +1,5 @@
 -- `capi::flags::mode_at` meets its contract: each return is the case that the test decided.
 -- Assumes nothing.
-use mathlib.Core.Bool.{not}
-use mathlib.Core.Path.{sym, ap}
 use borrow.Author.Tests.{eq-eqb, ne-eqb}
 use Rattle.capi.proofs.flags.mode_at.Statement.{statement}
 use Rattle.capi.proofs.flags.mode_at.Tie as tie
@@ -10,5 +8,5 @@ pub mode-at-spec : {M : Type 1} → statement M
 mode-at-spec =
     tie.close
     (tie.spec
-    (λ c. sym (ap not (eq-eqb (c .before .args .mode) 1 (c .if1 .taken))))
-    (λ c. sym (ap not (ne-eqb (c .before .args .mode) 1 (c .if1 .left)))))
+    (λ c. rw (eq-eqb (c .before .args .mode) 1 (c .if1 .taken)))
+    (λ c. rw (ne-eqb (c .before .args .mode) 1 (c .if1 .left))))

@@ -1,8 +1,6 @@
--- `game::checks::game_of` meets its contract: the fields, one by one.
+-- `game::checks::game_of` meets its contract: the mode's truth value, the mask, and the sizes.
 -- Assumes nothing.
 use borrow.Author.Needs.{needs}
-use native.Mathlib.Omega.{arith}
-use Rattle.automaton.proofs.AlphabetLaws.{inputs-fit, outputs-fit, power-is}
 use Rattle.game.proofs.checks.game_of.Statement.{statement}
 use Rattle.game.proofs.checks.game_of.Tie as tie
 
@@ -10,16 +8,9 @@ pub game-of-spec : {M : Type 1} → statement M
 game-of-spec =
     tie.close
     (tie.spec
-    (λ c κs. search needs)
-    (λ c κs. search needs)
+    (λ c κs. c .pre)
     (λ c κs. search needs)
     (λ c.
-    let z = c .before .before .before in
-    let a = z .args in
-    let h = inputs-fit (a .i) (a .o) (z .pre) in
-    let g = outputs-fit (a .i) (a .o) (z .pre) in
-    let p = c .before .before .power in
-    let q = c .before .power2 in
-    let e = power-is (a .i) (p .result) (omega arith) (p .ensures) in
-    let d = power-is (a .o) (q .result) (omega arith) (q .ensures) in
-    λ j. record { fair = c .is-fair .ensures j; mask = a .mask; states = a .n; inputs = e j; outputs = d j }))
+    let a = c .before .before .args in
+    let e = c .before .sizes-of .ensures in
+    λ j. record { fair = c .is-fair .ensures j; mask = a .mask; states = e j .states; inputs = e j .inputs; outputs = e j .outputs }))

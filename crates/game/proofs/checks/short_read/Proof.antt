@@ -17,7 +17,7 @@ short-read-spec =
     (λ c. let z = c .before .before in omega (arith, mul-le-mul (z .pre .states-fit) (mul-le-mul (z .pre .inputs-fit) (z .pre .outputs-fit))))
     (λ c.
     let a = c .before .before .before .args in
-    rw (lt-ltb (length (now (a .transitions))) (a .g .states * (a .g .inputs * a .g .outputs)) (c .if1 .taken)))
+    rw (lt-ltb (length (now (a .transitions))) (a .sizes .states * (a .sizes .inputs * a .sizes .outputs)) (c .if1 .taken)))
     (λ c.
     let a = c .before .before .before .before .args in
-    rw (le-ltb (length (now (a .transitions))) (a .g .states * (a .g .inputs * a .g .outputs)) (c .before .if1 .left))))
+    rw (le-ltb (length (now (a .transitions))) (a .sizes .states * (a .sizes .inputs * a .sizes .outputs)) (c .before .if1 .left))))

@@ -1,13 +1,13 @@
--- `game::given::given_refusal` meets its contract: the first two tests, and then the others on the game of these numbers.
+-- `game::given::given_refusal` meets its contract: the first two tests, and then the others on the arena of these numbers.
 -- Assumes nothing.
 use borrow.Author.Needs.{needs}
 use mathlib.Core.Path.{_≡_, sym, _∙_, subst}
 use mathlib.Core.Bool.{true, false}
 use denote.Ref.{now}
 use Rattle.automaton.specs.Alphabet.{badAlphabet}
-use Rattle.game.specs.declared.arena.Game.{Game}
+use Rattle.game.specs.declared.arena.Sizes.{Sizes}
 use Rattle.plays.specs.Arena.{Arena, arena}
-use Rattle.game.specs.inner.Game.{arenaOf}
+use Rattle.game.specs.inner.Game.{arenaAt}
 use Rattle.game.specs.inner.Checks.{InRange}
 use Rattle.game.specs.Given.{badCount, laterRefusal}
 use Rattle.game.proofs.CheckLaws.{in-range}
@@ -44,10 +44,10 @@ given-refusal-spec =
     (λ c κs. alphabet-good c)
     (λ c κs.
     let a = start-of (c .before) .args in
-    subst (λ (g : Game). InRange g) (sym (c .game-of .ensures)) (in-range true (a .mask) (a .n) (a .i) (a .o) (alphabet-good (c .before)) (count-good (c .before))))
+    subst (λ (z : Sizes). InRange z) (sym (c .sizes-of .ensures)) (in-range (a .n) (a .i) (a .o) (alphabet-good (c .before)) (count-good (c .before))))
     (λ c.
     let k = c .before .before in
     let z = start-of k in
     let a = z .args in
     refused-later (a .i) (a .o) (a .start) (G z) (now (a .system)) (now (a .environment)) (alphabet-good k) (count-good k) (c .later-refusal .result)
-    (subst (λ (g : Game). c .later-refusal .result ≡ laterRefusal (a .start) (arenaOf g (now (a .transitions)) (now (a .accepting))) (now (a .system)) (now (a .environment))) (c .before .game-of .ensures) (c .later-refusal .ensures))))
+    (subst (λ (z : Sizes). c .later-refusal .result ≡ laterRefusal (a .start) (arenaAt z (now (a .transitions)) (now (a .accepting)) (a .mask)) (now (a .system)) (now (a .environment))) (c .before .sizes-of .ensures) (c .later-refusal .ensures))))

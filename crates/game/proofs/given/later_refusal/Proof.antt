@@ -8,7 +8,7 @@ use native.Mathlib.Nat.{mul-le-mul}
 use lib.Seq.{length-take-le}
 use denote.Ref.{now}
 use Rattle.plays.specs.Arena.{Arena}
-use Rattle.game.specs.inner.Game.{arenaOf}
+use Rattle.game.specs.inner.Game.{arenaAt}
 use Rattle.game.specs.Given.{shortRead, shortTables, moveCount}
 use Rattle.game.proofs.CheckLaws.{transitions-long}
 use Rattle.game.proofs.GivenLaws.{read-refused, tables-refused, state-refused, move-refused, mask-refused, none-refused}
@@ -16,7 +16,7 @@ use Rattle.game.proofs.given.later_refusal.Statement.{statement}
 use Rattle.game.proofs.given.later_refusal.Tie as tie
 
 abbrev G : tie.Start → Arena
-G z = arenaOf (z .args .g) (now (z .args .transitions)) (now (z .args .accepting))
+G z = arenaAt (z .args .sizes) (now (z .args .transitions)) (now (z .args .accepting)) (z .args .mask)
 
 -- the tests that passed, at the place where the transitions are looked at
 abbrev start-of : tie.Else3 → tie.Start

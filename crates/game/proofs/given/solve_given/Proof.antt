@@ -1,18 +1,22 @@
 -- `game::given::solve_given` meets its contract: the refusal that comes first, or the tables and the verdict of the game of these numbers.
 -- Assumes nothing.
 use borrow.Author.Needs.{needs}
-use mathlib.Core.Path.{_≡_, sym, _∙_, subst}
+use mathlib.Core.Path.{_≡_, sym, _∙_, subst, subst₂}
 use mathlib.Core.List.{List}
 use mathlib.Core.Bool.{Bool, true, false}
 use Prim.Native.Nat.{ℕ, _*_, _<_, _≤_}
 use lib.ListN.{length}
 use denote.Ref.{now}
+use Rattle.automaton.specs.Limits.{stateLimit}
 use Rattle.reader.specs.declared.refusal.Refusal.{Refusal}
 use Rattle.reader.specs.declared.refusal.Refusal.the-variants.{Nothing}
 use Rattle.game.specs.declared.arena.Game.{Game}
 use Rattle.game.specs.declared.answer.Answer.{Answer}
 use Rattle.game.specs.declared.answer.Answer.the-variants.{Refused}
-use Rattle.plays.specs.Arena.{Arena, arena, isFair}
+use Rattle.plays.specs.declared.mode.Mode.{Mode}
+use Rattle.plays.specs.Arena.{Arena, arena}
+use Rattle.plays.specs.inner.Rank.{modeOf}
+use Rattle.plays.proofs.ModeLaws.{same-mode}
 use Rattle.game.specs.inner.Game.{arenaOf, Valid}
 use Rattle.game.specs.Tables.{Tables, Verdict}
 use Rattle.game.specs.Answer.{verdictOf}
@@ -30,7 +34,7 @@ abbrev first : tie.Start → Refusal
 first z = givenRefusal (z .args .i) (z .args .o) (z .args .start) (G z) (now (z .args .system)) (now (z .args .environment))
 
 abbrev Promise : tie.Start → Refusal → List ℕ → List ℕ → Answer → Type 0
-Promise z f σ τ r = Solved f (isFair (z .args .mode)) (z .args .start) (G z) (now (z .args .system)) (now (z .args .environment)) σ τ r
+Promise z f σ τ r = Solved f (z .args .mode) (z .args .start) (G z) (now (z .args .system)) (now (z .args .environment)) σ τ r
 
 -- where nothing is refused
 abbrev start-of : tie.After-enum-told → tie.Start
@@ -54,10 +58,13 @@ decided d can e =
     let σ = d .decide .last .1 .1 .1 .1 .0 in
     let τ = d .decide .last .1 .1 .1 .1 .1 .0 in
     let is = d .before .before .before .game-of .ensures in
-    solved-served (first z) (isFair (a .mode)) (a .start) (G z) (now (a .system)) (now (a .environment)) σ τ can (nothing (told-of d))
-    (subst (λ (g : Game). Tables (g .fair) (arenaOf g (now (a .transitions)) (now (a .accepting))) (now (a .system)) (now (a .environment)) σ τ) is (d .decide .ensures .0))
-    (subst (λ (b : Bool). Verdict (isFair (a .mode)) (G z) σ τ (a .start) b) e
-    (subst (λ (g : Game). Verdict (g .fair) (arenaOf g (now (a .transitions)) (now (a .accepting))) σ τ (a .start) (d .decide .result)) is (d .decide .ensures .1)))
+    solved-served (first z) (a .mode) (a .start) (G z) (now (a .system)) (now (a .environment)) σ τ can (nothing (told-of d))
+    (subst (λ (m : Mode). Tables m (G z) (now (a .system)) (now (a .environment)) σ τ) (same-mode (a .mode))
+    (subst (λ (g : Game). Tables (modeOf (g .fair)) (arenaOf g (now (a .transitions)) (now (a .accepting))) (now (a .system)) (now (a .environment)) σ τ) is
+    (d .decide .ensures .0)))
+    (subst₂ (λ (m : Mode) (b : Bool). Verdict m (G z) σ τ (a .start) b) (same-mode (a .mode)) e
+    (subst (λ (g : Game). Verdict (modeOf (g .fair)) (arenaOf g (now (a .transitions)) (now (a .accepting))) σ τ (a .start) (d .decide .result)) is
+    (d .decide .ensures .1)))
 
 pub solve-given-spec : {M : Type 1} → statement M
 solve-given-spec =
@@ -71,13 +78,13 @@ solve-given-spec =
     let z = c .before .before .before .before .before .before .before .before in
     let r = c .before .given-refusal in
     subst (λ (f : Refusal). Promise z f (now (z .args .system)) (now (z .args .environment)) (Refused (r .result))) (r .ensures)
-    (solved-refused (r .result) (isFair (z .args .mode)) (z .args .start) (G z) (now (z .args .system)) (now (z .args .environment)) (is-refused (r .result) (c .match .keys2))))
+    (solved-refused (r .result) (z .args .mode) (z .args .start) (G z) (now (z .args .system)) (now (z .args .environment)) (is-refused (r .result) (c .match .keys2))))
     (λ c κs. accepts c .alphabet)
     (λ c κs.
     let k = c .before .before .before in
     let a = start-of k .args in
     let w = accepts k in
-    subst (λ (g : Game). Valid (arenaOf g (now (a .transitions)) (now (a .accepting))) × ((a .start < g .states) × ((0 < g .inputs) × (128 * g .inputs ≤ length (now (a .system))) × (128 ≤ length (now (a .environment)))))) (sym (c .before .before .game-of .ensures))
+    subst (λ (g : Game). Valid (arenaOf g (now (a .transitions)) (now (a .accepting))) × ((a .start < g .states) × ((0 < g .inputs) × (stateLimit * g .inputs ≤ length (now (a .system))) × (stateLimit ≤ length (now (a .environment)))))) (sym (c .before .before .game-of .ensures))
     (w .valid, (w .start-fits, (w .inputs-some, w .system-long, w .environment-long))))
     (λ c. search needs)
     (λ c. search needs)

@@ -4,8 +4,9 @@ use borrow.Author.Needs.{needs}
 use mathlib.Core.Path.{_≡_}
 use Prim.Native.Nat.{ℕ, _^_, _≤_}
 use native.Mathlib.Omega.{arith}
-use lib.Pow.{pow-mono}
 use denote.Ref.{now}
+use Rattle.game.proofs.CheckLaws.{small-power}
+use Rattle.game.specs.inner.Limits.{numberLimit}
 use Rattle.automaton.proofs.AlphabetLaws.{inputs-fit, outputs-fit, power-is, LettersFit, letters-fit}
 use Rattle.game.specs.Rule.{Buffers, buffers}
 use Rattle.game.proofs.RuleCheckLaws.{transitions-short, accepting-short, system-short, environment-short}
@@ -54,7 +55,7 @@ power-requires-2 c κs = search needs
 mul-if3 : tie.Need-mul-if3
 mul-if3 c =
     let z = begin (first c) in
-    let h : 2 ^ z .args .i ≤ 16 = pow-mono {j = 4} (inputs-fit (z .args .i) (z .args .o) (z .pre)) in
+    let h : 2 ^ z .args .i ≤ numberLimit = small-power (z .args .i) (inputs-fit (z .args .i) (z .args .o) (z .pre)) in
     let e = inputs-are c in
     record { fits = omega arith }
 

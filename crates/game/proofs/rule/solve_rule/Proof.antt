@@ -1,12 +1,13 @@
 -- `game::rule::solve_rule` meets its contract: a refusal before the automaton, 9, or the tables and the verdict of the game on the automaton.
 -- Assumes nothing.
 use borrow.Author.Needs.{needs}
-use mathlib.Core.Path.{_≡_, refl, sym, _∙_, subst}
+use mathlib.Core.Path.{_≡_, refl, sym, _∙_, subst, subst₂}
 use mathlib.Core.List.{List}
 use mathlib.Core.Bool.{Bool, true, false}
 use Prim.Native.Nat.{ℕ, _*_, _^_, _<_, _≤_}
 use lib.ListN.{length}
 use denote.Ref.{now}
+use Rattle.automaton.specs.Limits.{stateLimit}
 use Rattle.reader.specs.declared.refusal.Refusal.{Refusal}
 use Rattle.reader.specs.declared.refusal.Refusal.the-variants.{Nothing}
 use Rattle.automaton.specs.declared.construct.Construction.{Construction}
@@ -14,7 +15,10 @@ use Rattle.automaton.specs.declared.construct.Construction.the-variants.{Built}
 use Rattle.automaton.specs.Construction.{Constructed}
 use Rattle.game.specs.declared.arena.Game.{Game}
 use Rattle.game.specs.Answer.{verdictOf}
-use Rattle.plays.specs.Arena.{Arena, arena, isFair}
+use Rattle.plays.specs.declared.mode.Mode.{Mode}
+use Rattle.plays.specs.Arena.{Arena, arena}
+use Rattle.plays.specs.inner.Rank.{modeOf}
+use Rattle.plays.proofs.ModeLaws.{same-mode}
 use Rattle.game.specs.inner.Game.{arenaOf, Valid}
 use Rattle.game.specs.Tables.{Tables, Verdict}
 use Rattle.game.specs.Rule.{Buffers, buffers, RuleSolved}
@@ -65,7 +69,7 @@ abbrev built-of : tie.After-decide → tie.After-known-told2
 built-of d = d .before .before .before .before .before .before
 
 decided : (d : tie.After-decide) (can : Bool) → d .decide .result ≡ can
-    → RuleSolved (isFair (start-of (told-of (built-of d)) .args .mode)) (start-of (told-of (built-of d)) .args .i) (start-of (told-of (built-of d)) .args .o) (now (start-of (told-of (built-of d)) .args .rule)) (now (start-of (told-of (built-of d)) .args .condition))
+    → RuleSolved (start-of (told-of (built-of d)) .args .mode) (start-of (told-of (built-of d)) .args .i) (start-of (told-of (built-of d)) .args .o) (now (start-of (told-of (built-of d)) .args .rule)) (now (start-of (told-of (built-of d)) .args .condition))
     (old (start-of (told-of (built-of d)))) (buffers (new-transitions (built-of d)) (new-accepting (built-of d)) (d .decide .last .1 .1 .1 .1 .0) (d .decide .last .1 .1 .1 .1 .1 .0)) (verdictOf can (states (built-of d)))
 decided d can e =
     let k = built-of d in
@@ -74,10 +78,13 @@ decided d can e =
     let σ = d .decide .last .1 .1 .1 .1 .0 in
     let τ = d .decide .last .1 .1 .1 .1 .1 .0 in
     let is = d .before .before .before .before .before .game-of .ensures in
-    answered (isFair (a .mode)) (a .i) (a .o) (now (a .rule)) (now (a .condition)) (old (start-of t)) (mask-of t) (checked t) (new-transitions k) (new-accepting k) (states k) (made k) σ τ can
-    (subst (λ (g : Game). Tables (g .fair) (arenaOf g (new-transitions k) (new-accepting k)) (now (a .system)) (now (a .environment)) σ τ) is (d .decide .ensures .0))
-    (subst (λ (b : Bool). Verdict (isFair (a .mode)) (arena (a .i) (a .o) (states k) (new-transitions k) (new-accepting k) (mask-of t)) σ τ 0 b) e
-    (subst (λ (g : Game). Verdict (g .fair) (arenaOf g (new-transitions k) (new-accepting k)) σ τ 0 (d .decide .result)) is (d .decide .ensures .1)))
+    let G : Arena = arena (a .i) (a .o) (states k) (new-transitions k) (new-accepting k) (mask-of t) in
+    answered (a .mode) (a .i) (a .o) (now (a .rule)) (now (a .condition)) (old (start-of t)) (mask-of t) (checked t) (new-transitions k) (new-accepting k) (states k) (made k) σ τ can
+    (subst (λ (m : Mode). Tables m G (now (a .system)) (now (a .environment)) σ τ) (same-mode (a .mode))
+    (subst (λ (g : Game). Tables (modeOf (g .fair)) (arenaOf g (new-transitions k) (new-accepting k)) (now (a .system)) (now (a .environment)) σ τ) is
+    (d .decide .ensures .0)))
+    (subst₂ (λ (m : Mode) (b : Bool). Verdict m G σ τ 0 b) (same-mode (a .mode)) e
+    (subst (λ (g : Game). Verdict (modeOf (g .fair)) (arenaOf g (new-transitions k) (new-accepting k)) σ τ 0 (d .decide .result)) is (d .decide .ensures .1)))
 
 pub solve-rule-spec : {M : Type 1} → statement M
 solve-rule-spec =
@@ -93,7 +100,7 @@ solve-rule-spec =
     let z = c .before .before .before .before .before .before .before .before .before .before .before .before in
     let a = z .args in
     let r = c .before .check-rule in
-    refused-early (isFair (a .mode)) (a .i) (a .o) (now (a .rule)) (now (a .condition)) (old z) (r .result .refusal) (r .result .mask) (is-refused (r .result .refusal) (c .match .keys2)) (r .ensures))
+    refused-early (a .mode) (a .i) (a .o) (now (a .rule)) (now (a .condition)) (old z) (r .result .refusal) (r .result .mask) (is-refused (r .result .refusal) (c .match .keys2)) (r .ensures))
     (λ c κs. search needs)
     (λ c. search needs)
     (λ c. search needs)
@@ -102,11 +109,11 @@ solve-rule-spec =
     let k = c .before .before .before .before .before in
     let t = told-of k in
     let a = start-of t .args in
-    let w = tables-fit (isFair (a .mode)) (a .i) (a .o) (now (a .rule)) (now (a .condition)) (old (start-of t)) (mask-of t) (checked t) (new-transitions k) (new-accepting k) in
-    subst (λ (g : Game). Valid (arenaOf g (new-transitions k) (new-accepting k)) × ((0 < g .states) × ((0 < g .inputs) × (128 * g .inputs ≤ length (now (a .system))) × (128 ≤ length (now (a .environment)))))) (sym (c .before .before .before .before .game-of .ensures)) (
-      valid (isFair (a .mode)) (a .i) (a .o) (now (a .rule)) (now (a .condition)) (old (start-of t)) (mask-of t) (checked t) (new-transitions k) (new-accepting k) (states k) (made k),
+    let w = tables-fit (a .mode) (a .i) (a .o) (now (a .rule)) (now (a .condition)) (old (start-of t)) (mask-of t) (checked t) (new-transitions k) (new-accepting k) in
+    subst (λ (g : Game). Valid (arenaOf g (new-transitions k) (new-accepting k)) × ((0 < g .states) × ((0 < g .inputs) × (stateLimit * g .inputs ≤ length (now (a .system))) × (stateLimit ≤ length (now (a .environment)))))) (sym (c .before .before .before .before .game-of .ensures)) (
+      valid (a .mode) (a .i) (a .o) (now (a .rule)) (now (a .condition)) (old (start-of t)) (mask-of t) (checked t) (new-transitions k) (new-accepting k) (states k) (made k),
       (
-        starts (isFair (a .mode)) (a .i) (a .o) (now (a .rule)) (now (a .condition)) (old (start-of t)) (mask-of t) (checked t) (new-transitions k) (new-accepting k) (states k) (made k),
+        starts (a .mode) (a .i) (a .o) (now (a .rule)) (now (a .condition)) (old (start-of t)) (mask-of t) (checked t) (new-transitions k) (new-accepting k) (states k) (made k),
         (w .0, w .1, w .2),
       ),
     ))
@@ -124,7 +131,7 @@ solve-rule-spec =
     let t = m .before .before .before in
     let a = start-of t .args in
     let x = c .before .built .given in
-    refused-late (isFair (a .mode)) (a .i) (a .o) (now (a .rule)) (now (a .condition)) (old (start-of t)) (mask-of t) (checked t) (m .construct .last .1 .1 .1 .0) (m .construct .last .1 .1 .1 .1 .0) (x .0 .0)
+    refused-late (a .mode) (a .i) (a .o) (now (a .rule)) (now (a .condition)) (old (start-of t)) (mask-of t) (checked t) (m .construct .last .1 .1 .1 .0) (m .construct .last .1 .1 .1 .1 .0) (x .0 .0)
     (subst (λ (r : Construction). Constructed (a .i) (a .o) (now (a .rule)) (now (a .transitions)) (now (a .accepting)) (m .construct .last .1 .1 .1 .0) (m .construct .last .1 .1 .1 .1 .0) r) (x .1) (m .construct .ensures)))
     (λ c. search needs)
     (λ c. search needs)

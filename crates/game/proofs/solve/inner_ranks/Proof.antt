@@ -7,6 +7,7 @@ use native.Mathlib.Omega.{arith}
 use borrow.Author.Needs.{needs}
 use lib.ListN.{length, replicate}
 use denote.Ref.{now}
+use Rattle.automaton.specs.Limits.{stateLimit}
 use Rattle.plays.specs.Arena.{Arena}
 use Rattle.game.specs.inner.Game.{arenaOf}
 use Rattle.game.specs.inner.Solver.{InnerRanks}
@@ -18,7 +19,7 @@ use Rattle.game.proofs.solve.inner_ranks.Tie as tie
 
 abbrev Inv-loop : tie.InvT-loop
 Inv-loop g transitions accepting outer witness₀ inner₀ p₀ witness inner p =
-    InnerRanks (g .fair) (arenaOf g transitions accepting) outer inner p × (p ≤ rankedCount inner (g .states) + 1) × (length inner ≡ 128)
+    InnerRanks (g .fair) (arenaOf g transitions accepting) outer inner p × (p ≤ rankedCount inner (g .states) + 1) × (length inner ≡ stateLimit)
 
 abbrev μ-loop : tie.MeasureT-loop
 μ-loop g transitions accepting outer witness₀ inner₀ p₀ witness inner p = g .states + 1 - p
@@ -44,7 +45,7 @@ inner-ranks-spec =
     μ-loop
     (λ c.
     let z = c .before .before in
-    (no-ranks (replicate 128 0) (zeros 128), search needs, refl))
+    (no-ranks (replicate stateLimit 0) (zeros stateLimit), search needs, refl))
     (λ c κs.
     let z = c .before .before .before .before .before in
     let l = c .before .before .loop in

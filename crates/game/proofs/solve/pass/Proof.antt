@@ -9,6 +9,7 @@ use native.Mathlib.Omega.{arith}
 use borrow.Author.Needs.{needs}
 use lib.ListN.{length, length-set}
 use denote.Ref.{now}
+use Rattle.automaton.specs.Limits.{stateLimit}
 use Rattle.plays.specs.Arena.{Arena}
 use Rattle.game.specs.inner.Game.{arenaOf}
 use Rattle.game.specs.inner.Solver.{Passed}
@@ -18,7 +19,7 @@ use Rattle.game.proofs.solve.pass.Tie as tie
 
 abbrev Inv-loop : tie.InvT-loop
 Inv-loop g transitions accepting outer inner₀ p witness₀ states gave₀ s₀ inner witness gave s =
-    (s ≤ g .states) × Passed (g .fair) (arenaOf g transitions accepting) outer inner₀ inner p s gave × (length inner ≡ 128)
+    (s ≤ g .states) × Passed (g .fair) (arenaOf g transitions accepting) outer inner₀ inner p s gave × (length inner ≡ stateLimit)
 
 abbrev μ-loop : tie.MeasureT-loop
 μ-loop g transitions accepting outer inner₀ p witness₀ states gave₀ s₀ inner witness gave s = g .states - s
@@ -34,7 +35,7 @@ again c =
     let e = c .before .attracted .ensures in
     let v = z .pre .0 in
     let P : List ℕ → Bool → Type 0 = λ new gave.
-    Passed (z .args .g .fair) (G z) (now (z .args .outer)) (now (z .args .inner)) new (z .args .p) (l .s + 1) gave × (length new ≡ 128) in
+    Passed (z .args .g .fair) (G z) (now (z .args .outer)) (now (z .args .inner)) new (z .args .p) (l .s + 1) gave × (length new ≡ stateLimit) in
     let here : P (c .if1 .inner) (c .if1 .gave) =
     ⊎-elim
     (λ w.
@@ -57,6 +58,7 @@ pass-spec =
     (λ c κs.
     let z = c .before .before .before .before .before .before in
     (z .pre .0, (c .before .before .loop-test .taken, c .before .before .before .loop .inv .1 .ranks .apart)))
+    (λ c. omega (arith, c .before .before .before .before .before .before .before .before .pre .0 .moving .states-fit))
     (λ c. omega (arith, c .before .before .before .before .before .before .before .before .pre .0 .moving .states-fit))
     (λ c. omega (arith, c .before .before .before .before .before .before .before .before .pre .0 .moving .states-fit))
     (λ c. omega arith)

@@ -9,13 +9,14 @@ use native.Mathlib.Omega.{arith}
 use borrow.Author.Needs.{needs}
 use lib.ListN.{length, length-set}
 use denote.Ref.{now}
+use Rattle.automaton.specs.Limits.{stateLimit}
 use Rattle.game.specs.inner.Solver.{Promoted}
 use Rattle.game.proofs.PromotionLaws.{promotion-starts, promotion-stays, promotion-gains, promotion-over}
 use Rattle.game.proofs.solve.promote.Statement.{statement}
 use Rattle.game.proofs.solve.promote.Tie as tie
 
 abbrev Inv-loop : tie.InvT-loop
-Inv-loop outer₀ inner n r gave₀ s₀ outer gave s = (s ≤ n) × Promoted s r outer₀ inner outer gave × (length outer ≡ 128)
+Inv-loop outer₀ inner n r gave₀ s₀ outer gave s = (s ≤ n) × Promoted s r outer₀ inner outer gave × (length outer ≡ stateLimit)
 
 abbrev μ-loop : tie.MeasureT-loop
 μ-loop outer₀ inner n r gave₀ s₀ outer gave s = n - s
@@ -26,7 +27,7 @@ again c =
     let z = c .before .before .before .before .before .args in
     let l = c .before .before .before .before .loop in
     let u = c .before .unranked .ensures in
-    let P : List ℕ → Bool → Type 0 = λ new gave. Promoted (l .s + 1) (z .r) (now (z .outer)) (now (z .inner)) new gave × (length new ≡ 128) in
+    let P : List ℕ → Bool → Type 0 = λ new gave. Promoted (l .s + 1) (z .r) (now (z .outer)) (now (z .inner)) new gave × (length new ≡ stateLimit) in
     let here : P (c .if1 .outer) (c .if1 .gave) =
     ⊎-elim
     (λ w. subst₂ P (sym (w .1)) (sym (w .2)) (
@@ -45,6 +46,7 @@ promote-spec =
     μ-loop
     (λ c. (search needs, promotion-starts, c .pre .1))
     (λ c κs. omega arith)
+    (λ c. omega arith)
     (λ c. omega arith)
     (λ c. omega arith)
     (λ c. omega arith)

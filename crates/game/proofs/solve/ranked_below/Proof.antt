@@ -12,5 +12,6 @@ ranked-below-spec =
     tie.close
     (tie.spec
     (λ c. search needs)
+    (λ c. search needs)
     (λ c. let a = c .before .before .args in sym (none-below (a .limit) (now (a .r)) (a .t) (c .if1 .taken)))
     (λ c. let a = c .before .before .args in sym (some-below (a .limit) (now (a .r)) (a .t) (c .if1 .left))))

@@ -7,6 +7,7 @@ use native.Mathlib.Omega.{arith}
 use borrow.Author.Needs.{needs}
 use lib.ListN.{length, replicate}
 use denote.Ref.{now}
+use Rattle.automaton.specs.Limits.{stateLimit}
 use Rattle.plays.specs.Arena.{Arena}
 use Rattle.game.specs.inner.Game.{arenaOf}
 use Rattle.game.specs.inner.Solver.{Attraction}
@@ -19,7 +20,7 @@ use Rattle.game.proofs.solve.rounds.Tie as tie
 abbrev Inv-loop : tie.InvT-loop
 Inv-loop g transitions accepting witness₀ states outer₀ r₀ inner₀ witness outer r inner =
     let G = arenaOf g transitions accepting in
-    OuterRanks (g .fair) G outer r × Attraction (g .fair) G outer inner × (r ≤ rankedCount outer (g .states) + 1) × (length outer ≡ 128)
+    OuterRanks (g .fair) G outer r × Attraction (g .fair) G outer inner × (r ≤ rankedCount outer (g .states) + 1) × (length outer ≡ stateLimit)
 
 abbrev μ-loop : tie.MeasureT-loop
 μ-loop g transitions accepting witness₀ states outer₀ r₀ inner₀ witness outer r inner = g .states + 1 - r
@@ -58,7 +59,7 @@ rounds-spec =
     Inv-loop
     μ-loop
     (λ c κs. c .before .before .before .before .pre)
-    (λ c. (no-rounds (replicate 128 0) (zeros 128), c .inner-ranks .ensures, search needs, refl))
+    (λ c. (no-rounds (replicate stateLimit 0) (zeros stateLimit), c .inner-ranks .ensures, search needs, refl))
     (λ c κs. (c .before .before .before .before .before .before .before .before .pre .moving .states-fit, c .before .before .loop .inv .3))
     (λ c. omega (arith, more c, c .before .before .before .before .before .before .before .before .before .before .pre .moving .states-fit, c .before .before .before .before .loop .inv .2))
     (λ c κs. c .before .before .before .before .before .before .before .before .before .before .before .before .pre)

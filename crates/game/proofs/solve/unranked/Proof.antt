@@ -12,7 +12,9 @@ unranked-spec =
     tie.close
     (tie.spec
     (λ c. search needs)
+    (λ c. search needs)
     (λ c. ((λ e. absurd (mathlib.Core.Bool.false≢true e)), (λ e z. c .if1 .taken (z .0))))
+    (λ c. search needs)
     (λ c. search needs)
     (λ c.
     let a = c .before .before .before .args in (

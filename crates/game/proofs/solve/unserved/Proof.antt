@@ -9,6 +9,8 @@ use native.Mathlib.Omega.{arith}
 use borrow.Author.Needs.{needs}
 use borrow.Author.Count.{below-none, below-more}
 use denote.Ref.{now}
+use Rattle.game.specs.inner.Limits.{numberLimit}
+use Rattle.automaton.specs.Limits.{stateLimit}
 use Rattle.game.specs.inner.Game.{arenaOf}
 use Rattle.game.specs.inner.Solver.{rankedBelow, serving}
 use Rattle.game.specs.declared.arena.Game.{Game}
@@ -39,7 +41,7 @@ abbrev μ-inputs : tie.MeasureT-inputs
 
 -- the index of the witness
 index : (c : tie.In-inputs Inv-loop μ-loop Inv-inputs μ-inputs)
-    → let a = c .before .before .before .before .args in a .s * a .g .inputs + c .before .inputs .x < 2048
+    → let a = c .before .before .before .before .args in a .s * a .g .inputs + c .before .inputs .x < stateLimit * numberLimit
 index c =
     let z = c .before .before .before .before in
     let m = z .pre .0 .moving in

@@ -2,6 +2,7 @@
 -- Assumes nothing.
 use borrow.Author.Needs.{needs}
 use denote.Ref.{now}
+use Rattle.plays.specs.inner.Rank.{modeOf}
 use Rattle.game.specs.inner.Game.{arenaOf}
 use Rattle.game.proofs.StrategyLaws.{start-verdict}
 use Rattle.game.proofs.tables.decide.Statement.{statement}
@@ -16,6 +17,6 @@ decide-spec = tie.close (tie.spec (λ c κs. search needs) (λ c κs.
     let z = f .before .before .before .before .before .before .before .before .before .before .before .before in
     let a = z .args in (
       f .fill .ensures,
-      start-verdict (a .g .fair) (arenaOf (a .g) (now (a .transitions)) (now (a .accepting))) (now (a .system)) (now (a .environment))
+      start-verdict (modeOf (a .g .fair)) (arenaOf (a .g) (now (a .transitions)) (now (a .accepting))) (now (a .system)) (now (a .environment))
           (f .fill .last .1 .1 .1 .1 .1 .0) (f .fill .last .1 .1 .1 .1 .1 .1 .0) (a .start) (z .pre .1 .0) (z .pre .0 .moving .inputs-fit) (f .fill .ensures),
     )))

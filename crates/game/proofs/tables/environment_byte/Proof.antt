@@ -20,6 +20,7 @@ environment-byte-spec =
     tie.close
     (tie.spec
     (λ c. search needs)
+    (λ c. search needs)
     (λ c.
     let z = c .before .before .before .before in
     no-input (z .args .g .fair) (G z) (now (z .args .ranks)) (z .args .s) (c .if1 .taken))

@@ -8,6 +8,7 @@ use Prim.Native.Nat.{ℕ, _-_, _<_, _≤_}
 use borrow.Author.Count.{below-none}
 use lib.ListN.{length, getD, length-set}
 use denote.Ref.{now}
+use Rattle.automaton.specs.Limits.{stateLimit}
 use Rattle.game.specs.inner.Game.{arenaOf}
 use Rattle.game.specs.inner.Bytes.{EnvironmentByte}
 use Rattle.game.proofs.TableLaws.{fill-below, fill-rest}
@@ -16,13 +17,13 @@ use Rattle.game.proofs.tables.fill_environment.Tie as tie
 
 abbrev Inv-loop : tie.InvT-loop
 Inv-loop g transitions accepting ranks environment₀ s₀ environment s =
-    (s ≤ 128)
+    (s ≤ stateLimit)
     × ((k : ℕ) → k < s → EnvironmentByte (g .fair) (arenaOf g transitions accepting) ranks k (getD environment k 0))
     × ((k : ℕ) → s ≤ k → getD environment k 0 ≡ getD environment₀ k 0)
     × (length environment ≡ length environment₀)
 
 abbrev μ-loop : tie.MeasureT-loop
-μ-loop g transitions accepting ranks environment₀ s₀ environment s = 128 - s
+μ-loop g transitions accepting ranks environment₀ s₀ environment s = stateLimit - s
 
 pub fill-environment-spec : {M : Type 1} → statement M
 fill-environment-spec =

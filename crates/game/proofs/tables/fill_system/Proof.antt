@@ -8,6 +8,7 @@ use Prim.Native.Nat.{ℕ, _*_, _-_, _/_, _%_, _<_, _≤_}
 use borrow.Author.Count.{below-none}
 use lib.ListN.{length, getD, length-set}
 use denote.Ref.{now}
+use Rattle.automaton.specs.Limits.{stateLimit}
 use Rattle.game.specs.inner.Game.{arenaOf}
 use native.Mathlib.Nat.{div-lt-iff-lt-mul, mod-lt}
 use Rattle.game.specs.inner.Bytes.{SystemByte}
@@ -17,13 +18,13 @@ use Rattle.game.proofs.tables.fill_system.Tie as tie
 
 abbrev Inv-loop : tie.InvT-loop
 Inv-loop g transitions accepting ranks system₀ inputs total k₀ system k =
-    (k ≤ 128 * g .inputs)
+    (k ≤ stateLimit * g .inputs)
     × ((j : ℕ) → j < k → SystemByte (g .fair) (arenaOf g transitions accepting) ranks (j / g .inputs) (j % g .inputs) (getD system j 0))
     × ((j : ℕ) → k ≤ j → getD system j 0 ≡ getD system₀ j 0)
     × (length system ≡ length system₀)
 
 abbrev μ-loop : tie.MeasureT-loop
-μ-loop g transitions accepting ranks system₀ inputs total k₀ system k = 128 * g .inputs - k
+μ-loop g transitions accepting ranks system₀ inputs total k₀ system k = stateLimit * g .inputs - k
 
 pub fill-system-spec : {M : Type 1} → statement M
 fill-system-spec =

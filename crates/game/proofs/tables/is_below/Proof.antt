@@ -11,5 +11,6 @@ is-below-spec =
     tie.close
     (tie.spec
     (λ c. search needs)
+    (λ c. search needs)
     (λ c. let z = c .before .before .args in no-rank (now (z .ranks)) (z .most) (z .t) (c .if1 .taken))
     (λ c. let z = c .before .before .args in some-rank (now (z .ranks)) (z .most) (z .t) (c .if1 .left)))

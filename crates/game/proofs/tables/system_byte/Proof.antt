@@ -20,6 +20,7 @@ system-byte-spec =
     tie.close
     (tie.spec
     (λ c. search needs)
+    (λ c. search needs)
     (λ c.
     let z = c .before .before .before .before in
     no-output (z .args .g .fair) (G z) (now (z .args .ranks)) (z .args .s) (z .args .x) (c .if1 .taken))

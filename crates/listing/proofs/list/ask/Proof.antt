@@ -6,7 +6,6 @@ use native.Mathlib.Omega.{arith}
 use lib.ListN.{length}
 use denote.Ref.{now}
 use borrow.Author.Needs.{needs}
-use Rattle.plays.specs.Arena.{isFair}
 use Rattle.game.specs.Rule.{buffers}
 use Rattle.listing.proofs.RequestLaws.{Digits, request-size, start-fits, ended, rule-ended}
 use Rattle.listing.proofs.PromiseLaws.{asked-parts}
@@ -54,5 +53,5 @@ ask-spec =
     let m = c .before .before .before .before .before .before .before .before .before .before .before .before .before .before .before in
     let e = m .before .before .before .before in
     let z = start-of (e .before) .args in
-    asked-parts (now (z .input)) _ _ _ _ _ (isFair (m .mode-of .result)) (buffers (now (z .transitions)) (now (z .accepting)) (now (z .system)) (now (z .environment))) _ (c .before .before .before .before .before .before .before .before .solve-rule .result)
+    asked-parts (now (z .input)) _ _ _ _ _ (m .mode-of .result) (buffers (now (z .transitions)) (now (z .accepting)) (now (z .system)) (now (z .environment))) _ (c .before .before .before .before .before .before .before .before .solve-rule .result)
     (e .before .condition-start .ensures) (e .line-end .ensures) (m .before .before .before .line-end2 .ensures) (m .before .before .digit-at .ensures) (m .before .digit-at2 .ensures) (m .mode-of .ensures) (c .before .before .before .before .before .before .before .before .solve-rule .ensures)))

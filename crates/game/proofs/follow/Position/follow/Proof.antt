@@ -1,4 +1,4 @@
--- `game::follow::Position::follow` meets its contract: the first two tests, and then the step on the game of these numbers.
+-- `game::follow::Position::follow` meets its contract: the first two tests, and then the step on the arena of these numbers.
 -- Assumes nothing.
 use borrow.Author.Needs.{needs}
 use mathlib.Core.Path.{_≡_, sym, _∙_, subst}
@@ -6,11 +6,11 @@ use mathlib.Core.Bool.{true, false}
 use denote.Ref.{now}
 use Rattle.automaton.specs.Alphabet.{badAlphabet}
 use Rattle.reader.specs.declared.refusal.Refusal.the-variants.{Alphabet, GivenCount}
-use Rattle.game.specs.declared.arena.Game.{Game}
+use Rattle.game.specs.declared.arena.Sizes.{Sizes}
 use Rattle.game.specs.declared.follow.Followed.{Followed}
 use Rattle.game.specs.declared.follow.Followed.the-variants.{Refused}
 use Rattle.plays.specs.Arena.{Arena, arena}
-use Rattle.game.specs.inner.Game.{arenaOf}
+use Rattle.game.specs.inner.Game.{arenaAt}
 use Rattle.game.specs.inner.Checks.{InRange}
 use Rattle.game.specs.Given.{badCount}
 use Rattle.game.specs.Follower.{laterFollowed, followed, FollowedBy}
@@ -53,11 +53,11 @@ follow-spec =
     (λ c κs. alphabet-good c)
     (λ c κs.
     let a = start-of (c .before) .args in
-    subst (λ (g : Game). InRange g) (sym (c .game-of .ensures)) (in-range true 0 (a .n) (a .i) (a .o) (alphabet-good (c .before)) (count-good (c .before))))
+    subst (λ (z : Sizes). InRange z) (sym (c .sizes-of .ensures)) (in-range (a .n) (a .i) (a .o) (alphabet-good (c .before)) (count-good (c .before))))
     (λ c.
     let k = c .before .before in
     let z = start-of k in
     let a = z .args in
     answers z (c .step .result)
     (followed-later (a .i) (a .o) (G z) (now (a .system)) (a .self) (a .x) (alphabet-good k) (count-good k) (c .step .result)
-    (subst (λ (g : Game). c .step .result ≡ laterFollowed (arenaOf g (now (a .transitions)) (now (a .accepting))) (now (a .system)) (a .self) (a .x)) (c .before .game-of .ensures) (c .step .ensures)))))
+    (subst (λ (z : Sizes). c .step .result ≡ laterFollowed (arenaAt z (now (a .transitions)) (now (a .accepting)) 0) (now (a .system)) (a .self) (a .x)) (c .before .sizes-of .ensures) (c .step .ensures)))))

@@ -6,7 +6,7 @@ use mathlib.Core.Path.{sym, subst}
 use Prim.Native.Nat.{ℕ, _<_}
 use denote.Ref.{now}
 use Rattle.plays.specs.Arena.{Arena, next}
-use Rattle.game.specs.inner.Game.{arenaOf}
+use Rattle.game.specs.inner.Game.{arenaAt}
 use Rattle.game.proofs.IndexLaws.{At, at-facts}
 use Rattle.game.proofs.CheckLaws.{transitions-long, accepting-long}
 use Rattle.game.proofs.FollowLaws.{move-leads-out, move-leads-in}
@@ -14,17 +14,17 @@ use Rattle.game.proofs.follow.Position.moved_by.Statement.{statement}
 use Rattle.game.proofs.follow.Position.moved_by.Tie as tie
 
 abbrev G : tie.Start → Arena
-G z = arenaOf (z .args .g) (now (z .args .transitions)) (now (z .args .accepting))
+G z = arenaAt (z .args .sizes) (now (z .args .transitions)) (now (z .args .accepting)) 0
 
 abbrev start-of : tie.After-wide → tie.Start
 start-of c = c .before .before .before
 
-facts : (c : tie.After-wide) → At (start-of c .args .g .states) (start-of c .args .g .inputs) (start-of c .args .g .outputs) (start-of c .args .self .state) (start-of c .args .x) (c .wide .result)
+facts : (c : tie.After-wide) → At (start-of c .args .sizes .states) (start-of c .args .sizes .inputs) (start-of c .args .sizes .outputs) (start-of c .args .self .state) (start-of c .args .x) (c .wide .result)
 facts c =
     let z = start-of c in
     let p = z .pre .1 .1 in
-    at-facts (z .args .g .states) (z .args .g .inputs) (z .args .g .outputs) (z .args .self .state) (z .args .x) (c .wide .result)
-    (z .pre .0 .states-fit) (z .pre .0 .inputs-fit) (z .pre .0 .outputs-fit) (p .0) (p .1) (subst (λ (v : ℕ). v < z .args .g .outputs) (sym (c .wide .ensures)) (p .2))
+    at-facts (z .args .sizes .states) (z .args .sizes .inputs) (z .args .sizes .outputs) (z .args .self .state) (z .args .x) (c .wide .result)
+    (z .pre .0 .states-fit) (z .pre .0 .inputs-fit) (z .pre .0 .outputs-fit) (p .0) (p .1) (subst (λ (v : ℕ). v < z .args .sizes .outputs) (sym (c .wide .ensures)) (p .2))
 
 pub moved-by-spec : {M : Type 1} → statement M
 unfolding next

@@ -9,8 +9,9 @@ use native.Mathlib.Nat.{mul-le-mul}
 use lib.ListN.{length}
 use denote.Ref.{now}
 use borrow.Author.Tests.{ltb-false}
+use Rattle.automaton.specs.Limits.{stateLimit}
 use Rattle.plays.specs.Arena.{Arena}
-use Rattle.game.specs.inner.Game.{arenaOf}
+use Rattle.game.specs.inner.Game.{arenaAt}
 use Rattle.game.specs.Given.{shortRead}
 use Rattle.game.specs.Follower.{shortStrategy}
 use Rattle.game.proofs.IndexLaws.{row-below}
@@ -19,7 +20,7 @@ use Rattle.game.proofs.follow.Position.step.Statement.{statement}
 use Rattle.game.proofs.follow.Position.step.Tie as tie
 
 abbrev G : tie.Start → Arena
-G z = arenaOf (z .args .g) (now (z .args .transitions)) (now (z .args .accepting))
+G z = arenaAt (z .args .sizes) (now (z .args .transitions)) (now (z .args .accepting)) 0
 
 -- the tests that passed, at the place where the table is read
 abbrev start-of : tie.Else4 → tie.Start
@@ -54,17 +55,17 @@ step-spec =
     (sym (c .before .before .before .before .before .short-read .ensures) ∙ c .before .before .before .before .if1 .left) (sym (c .before .before .before .short-strategy .ensures) ∙ c .before .before .if2 .left) (c .before .if3 .left) (c .if4 .taken))
     (λ c.
     let z = start-of c in
-    let s : z .args .self .state ≤ 128 = omega (arith, z .pre) in omega (arith, mul-le-mul s (z .pre .inputs-fit)))
+    let s : z .args .self .state ≤ stateLimit = omega (arith, z .pre) in omega (arith, mul-le-mul s (z .pre .inputs-fit)))
     (λ c.
     let z = start-of c in
-    let s : z .args .self .state ≤ 128 = omega (arith, z .pre) in omega (arith, mul-le-mul s (z .pre .inputs-fit), z .pre .inputs-fit))
+    let s : z .args .self .state ≤ stateLimit = omega (arith, z .pre) in omega (arith, mul-le-mul s (z .pre .inputs-fit), z .pre .inputs-fit))
     (λ c.
     let k = c .before in
     let a = start-of k .args in
     omega (
       arith,
-      ltb-false (length (now (a .system))) (a .g .states * a .g .inputs) (table-no k),
-      row-below (a .g .states) (a .g .inputs) (a .self .state) (a .x) (k .before .if3 .left) (k .if4 .left),
+      ltb-false (length (now (a .system))) (a .sizes .states * a .sizes .inputs) (table-no k),
+      row-below (a .sizes .states) (a .sizes .inputs) (a .self .state) (a .x) (k .before .if3 .left) (k .if4 .left),
     ))
     (λ c κs. search needs)
     (λ c.
@@ -72,16 +73,16 @@ step-spec =
     let k = w .before .before in
     let z = start-of k in
     no-row (G z) (now (z .args .system)) (z .args .self) (z .args .x) (read-no k) (table-no k) (k .before .if3 .left) (k .if4 .left)
-    (subst (λ (v : ℕ). z .args .g .outputs ≤ v) (w .wide .ensures) (c .if5 .taken)))
+    (subst (λ (v : ℕ). z .args .sizes .outputs ≤ v) (w .wide .ensures) (c .if5 .taken)))
     (λ c κs.
     let w = c .before .before in
     let k = w .before .before in
     let z = start-of k in
-    (z .pre, (read-no k, (k .before .if3 .left, k .if4 .left, subst (λ (v : ℕ). v < z .args .g .outputs) (w .wide .ensures) (c .if5 .left)))))
+    (z .pre, (read-no k, (k .before .if3 .left, k .if4 .left, subst (λ (v : ℕ). v < z .args .sizes .outputs) (w .wide .ensures) (c .if5 .left)))))
     (λ c.
     let e = c .before in
     let w = e .before .before in
     let k = w .before .before in
     let z = start-of k in
     moved (G z) (now (z .args .system)) (z .args .self) (z .args .x) (read-no k) (table-no k) (k .before .if3 .left) (k .if4 .left)
-    (subst (λ (v : ℕ). v < z .args .g .outputs) (w .wide .ensures) (e .if5 .left)) (c .moved-by .result) (c .moved-by .ensures)))
+    (subst (λ (v : ℕ). v < z .args .sizes .outputs) (w .wide .ensures) (e .if5 .left)) (c .moved-by .result) (c .moved-by .ensures)))

@@ -7,7 +7,6 @@ ghost use Rattle.game.specs.Rule.{Buffers, buffers, shortBuffers, RuleSo
 ghost use Rattle.game.specs.inner.RuleChecks.{RuleChecked};
 use crate::answer::Answer;
 use crate::checks::game_of;
-use crate::limits::STATE_LIMIT;
 use crate::tables::decide;
 use automaton::alphabet::bad_alphabet;
 use automaton::alphabet::power;
@@ -15,6 +14,7 @@ use automaton::condition::Assumption;
 use automaton::condition::read_condition;
 use automaton::construct::Construction;
 use automaton::construct::construct;
+use automaton::limits::STATE_LIMIT;
 use plays::mode::Mode;
 use reader::reading::Reading;
 use reader::reading::check;

@@ -30,7 +30,8 @@ module _ (outer inner : List ℕ) (p : ℕ) (apart : Apart outer inner) (t : ℕ
 
 module _ {fair : Bool} {G : Arena} {outer inner : List ℕ} {p s r : ℕ} (apart : Apart outer inner) (un : Unranked outer inner s) where
   -- fair: the environment attracts where some input is unserved
-  pub attracted-fair : fair ≡ true → FirstUnserved G (rankedBelow rankLimit outer) (rankedBelow p inner) s r → Attracted fair G outer inner p s (ltb r (G .inputs))
+  pub attracted-fair : fair ≡ true → FirstUnserved G (rankedBelow rankLimit outer) (rankedBelow p inner) s r
+      → Attracted fair G outer inner p s (ltb r (G .inputs))
   attracted-fair e u =
       subst (λ (f : Bool). Attracted f G outer inner p s (ltb r (G .inputs))) (sym e)
       (record {
@@ -39,7 +40,8 @@ module _ {fair : Bool} {G : Arena} {outer inner : List ℕ} {p s r : ℕ} (apart
       })
 
   -- stable: the system attracts where every input is served
-  pub attracted-stable : fair ≡ false → FirstUnserved G (rankedBelow p inner) (rankedBelow rankLimit outer) s r → Attracted fair G outer inner p s (leb (G .inputs) r)
+  pub attracted-stable : fair ≡ false → FirstUnserved G (rankedBelow p inner) (rankedBelow rankLimit outer) s r
+      → Attracted fair G outer inner p s (leb (G .inputs) r)
   attracted-stable e u =
       subst (λ (f : Bool). Attracted f G outer inner p s (leb (G .inputs) r)) (sym e)
       (record {

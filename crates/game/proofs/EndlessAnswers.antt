@@ -32,11 +32,13 @@ use Rattle.game.proofs.RuleLaws.{reached-satisfied, satisfied-reached, 
 
 -- ---- a given automaton
 
-verdict-endless : (mode : Mode) (G : Arena) (σ τ : List ℕ) (start n : ℕ) (can : Bool) → Verdict mode G σ τ start can → GivenEndless mode G σ τ start (verdictOf can n)
+verdict-endless : (mode : Mode) (G : Arena) (σ τ : List ℕ) (start n : ℕ) (can : Bool) → Verdict mode G σ τ start can
+    → GivenEndless mode G σ τ start (verdictOf can n)
 verdict-endless mode G σ τ start n true v = system-endless G mode σ start (v .system refl .wins)
 verdict-endless mode G σ τ start n false v = environment-endless G mode τ start (v .environment refl .wins)
 
-pub given-endless : (i o : ℕ) (mode : Mode) (G : Arena) (start : ℕ) (σ₀ τ₀ σ τ : List ℕ) (r : Answer) → GivenSolved mode i o start G σ₀ τ₀ σ τ r → GivenEndless mode G σ τ start r
+pub given-endless : (i o : ℕ) (mode : Mode) (G : Arena) (start : ℕ) (σ₀ τ₀ σ τ : List ℕ) (r : Answer) → GivenSolved mode i o start G σ₀ τ₀ σ τ r
+    → GivenEndless mode G σ τ start r
 given-endless i o mode G start σ₀ τ₀ σ τ r x =
     ⊎-elim
     (λ n. let u = x .served n in subst (GivenEndless mode G σ τ start) (sym (u .1)) (verdict-endless mode G σ τ start (G .states) (u .0) (u .3)))
@@ -51,7 +53,8 @@ unfolding first letters Satisfies
 itself φ G f zero s = absurd s
 itself φ G f (suc k) s =
     let l = first-long f (suc k) in
-    let e : take (suc k) (letters G (first f (suc k))) ≡ letters G (first f (suc k)) = take-letters G (first f (suc k)) (suc k) ∙ ap (letters G) (first-take f (suc k) (suc k) (omega arith)) in
+    let e : take (suc k) (letters G (first f (suc k))) ≡ letters G (first f (suc k)) = take-letters G (first f (suc k)) (suc k)
+    ∙ ap (letters G) (first-take f (suc k) (suc k) (omega arith)) in
     (suc k, omega arith, omega arith, subst (Satisfies φ) (sym e) s)
 
 module _ (φ : Formula) (G : Arena) (automaton : Automaton φ (G .inputs * G .outputs) (G .states) (G .transitions) (G .accepting)) where
@@ -74,7 +77,8 @@ module _ (φ : Formula) (G : Arena) (automaton : Automaton φ (G .inputs * G .ou
         plays = λ f follows promised. kept-rule σ f (x .plays f follows promised);
       }
 
-  defeated-rule : (mode : Mode) (τ : List ℕ) (f : ℕ → Step) → Follows G (ByEnvironment G τ) 0 f → Defeated mode G (Reaching G 0) f → Defeated mode G (Satisfying φ G) f
+  defeated-rule : (mode : Mode) (τ : List ℕ) (f : ℕ → Step) → Follows G (ByEnvironment G τ) 0 f → Defeated mode G (Reaching G 0) f
+      → Defeated mode G (Satisfying φ G) f
   defeated-rule mode τ f follows d =
       record {
         never = λ k s. d .never k (satisfied-reached φ G automaton (ByEnvironment G τ) (λ s a b. b .0) (first f k) (follows k) (itself φ G f k s));

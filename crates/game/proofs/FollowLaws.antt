@@ -25,7 +25,8 @@ module _ (G : Arena) (p : Position) (x y z t : ℕ) (same : z ≡ y) (is : t ≡
   pub move-leads-out : G .states ≤ t → Refused (Move (moveIndex G (p .state) x z)) ≡ movedBy G p x y
   move-leads-out h = rw (← same, ← is, le-leb (G .states) t h)
 
-  pub move-leads-in : t < G .states → (q : Position) → (q .state ≡ t) × (q .reached ≡ (p .reached || not (eqb (getD (G .accepting) t 0) 0))) → Moved y q ≡ movedBy G p x y
+  pub move-leads-in : t < G .states → (q : Position) → (q .state ≡ t) × (q .reached ≡ (p .reached || not (eqb (getD (G .accepting) t 0) 0)))
+      → Moved y q ≡ movedBy G p x y
   unfolding goal
   move-leads-in h q e = rw (← same, ← is, lt-leb (G .states) t h) (λ j. Moved z (record { state = e .0 j; reached = e .1 j }))
 

@@ -109,10 +109,12 @@ later-accepted start G σ τ e =
       tables = or-right (shortRead G) (shortTables G σ τ) (short .0);
       start-fits = leb-false (G .states) start (state .0);
       closed = λ k h. subst (λ (v : ℕ). v < G .states) (getD-take (moveCount G) (G .transitions) k 0 h)
-          (letter-at (G .states) T (none-over (G .states) T (ltb-false (firstOver (G .states) T) (length T) (move .0))) k (let q : k < length T = omega arith in q));
+          (letter-at (G .states) T (none-over (G .states) T
+          (ltb-false (firstOver (G .states) T) (length T) (move .0))) k (let q : k < length T = omega arith in q));
     }
 
-pub accepted : (i o start n : ℕ) (transitions flags : List ℕ) (mask : ℕ) (σ τ : List ℕ) → givenRefusal i o start (arena i o n transitions flags mask) σ τ ≡ Nothing
+pub accepted : (i o start n : ℕ) (transitions flags : List ℕ) (mask : ℕ) (σ τ : List ℕ)
+    → givenRefusal i o start (arena i o n transitions flags mask) σ τ ≡ Nothing
     → Accepted i o start (arena i o n transitions flags mask) σ τ
 unfolding givenRefusal
 accepted i o start n transitions flags mask σ τ e =
@@ -141,10 +143,16 @@ accepted i o start n transitions flags mask σ τ e =
     }
 
 -- the promise of a refused call, and of a served one
-pub solved-refused : (refusal : Refusal) (mode : Mode) (start : ℕ) (G : Arena) (σ τ : List ℕ) → (refusal ≡ Nothing → ⊥) → Solved refusal mode start G σ τ σ τ (Refused refusal)
+pub solved-refused : (refusal : Refusal) (mode : Mode) (start : ℕ) (G : Arena) (σ τ : List ℕ) → (refusal ≡ Nothing → ⊥)
+    → Solved refusal mode start G σ τ σ τ (Refused refusal)
 solved-refused refusal mode start G σ τ ne = record { number = refl; place = refl; refused = λ _. (refl, refl, refl); served = λ e. absurd (ne e) }
 
 pub solved-served : (refusal : Refusal) (mode : Mode) (start : ℕ) (G : Arena) (σ₀ τ₀ σ τ : List ℕ) (can : Bool) → refusal ≡ Nothing → Tables mode G σ₀ τ₀ σ τ
     → Verdict mode G σ τ start can → Solved refusal mode start G σ₀ τ₀ σ τ (verdictOf can (G .states))
 solved-served refusal mode start G σ₀ τ₀ σ τ can e t v =
-    record { number = verdict-number can (G .states) ∙ sym (ap numberOf e); place = verdict-place can (G .states) ∙ sym (ap placeOf e); refused = λ ne. absurd (ne e); served = λ _. (can, refl, t, v) }
+    record {
+      number = verdict-number can (G .states) ∙ sym (ap numberOf e);
+      place = verdict-place can (G .states) ∙ sym (ap placeOf e);
+      refused = λ ne. absurd (ne e);
+      served = λ _. (can, refl, t, v);
+    }

@@ -89,7 +89,8 @@ module _ (mode : Mode) (G : Arena) (few-inputs : G .inputs ≤ noMove) (σ₀ τ
 module _ (mode : Mode) (G : Arena) (few-inputs : G .inputs ≤ noMove) (few-outputs : G .outputs ≤ noMove) (some : 0 < G .inputs) (σ₀ τ₀ σ τ σ′ τ′ : List ℕ)
     (x : Tables mode G σ₀ τ₀ σ τ) (y : Tables mode G σ₀ τ₀ σ′ τ′) where
   -- a state below n has the same winner in both runs
-  same-winner : (s : ℕ) → s < G .states → (SystemState mode G σ τ s × SystemState mode G σ′ τ′ s) ⊎ (EnvironmentState mode G σ τ s × EnvironmentState mode G σ′ τ′ s)
+  same-winner : (s : ℕ) → s < G .states
+      → (SystemState mode G σ τ s × SystemState mode G σ′ τ′ s) ⊎ (EnvironmentState mode G σ τ s × EnvironmentState mode G σ′ τ′ s)
   same-winner s h =
       ⊎-elim
       (λ u. ⊎-elim (λ v. _⊎_.inl (u, v)) (λ v. absurd (one-winner mode G σ τ′ s (u .wins) (v .wins))) (y .won s h))
@@ -106,7 +107,8 @@ module _ (mode : Mode) (G : Arena) (few-inputs : G .inputs ≤ noMove) (few-outp
       (λ w. _⊎_.inr (w .0 .other a h ∙ sym (w .1 .other a h)))
       (same-winner s l))
       (λ e. _⊎_.inr (on (ltb s stateLimit)
-      (λ f. x .system-rest s a (ltb-false s (G .states) e) (ltb-true s stateLimit f) h ∙ sym (y .system-rest s a (ltb-false s (G .states) e) (ltb-true s stateLimit f) h))
+      (λ f. x .system-rest s a (ltb-false s (G .states) e) (ltb-true s stateLimit f) h
+      ∙ sym (y .system-rest s a (ltb-false s (G .states) e) (ltb-true s stateLimit f) h))
       (λ f.
       let m : stateLimit * G .inputs ≤ s * G .inputs + a = omega (arith, mul-le-mul-right (G .inputs) (ltb-false s stateLimit f)) in
       x .system-beyond (s * G .inputs + a) m ∙ sym (y .system-beyond (s * G .inputs + a) m))))
@@ -121,7 +123,8 @@ module _ (mode : Mode) (G : Arena) (few-inputs : G .inputs ≤ noMove) (few-outp
       (λ w. let p = w .0 .byte in let q = w .1 .byte in _⊎_.inl ((l, has-move τ s (omega arith)), omega arith, omega arith))
       (same-winner s l))
       (λ e. _⊎_.inr (on (ltb s stateLimit)
-      (λ f. x .environment-rest s (ltb-false s (G .states) e) (ltb-true s stateLimit f) ∙ sym (y .environment-rest s (ltb-false s (G .states) e) (ltb-true s stateLimit f)))
+      (λ f. x .environment-rest s (ltb-false s (G .states) e) (ltb-true s stateLimit f)
+      ∙ sym (y .environment-rest s (ltb-false s (G .states) e) (ltb-true s stateLimit f)))
       (λ f. x .environment-beyond s (ltb-false s stateLimit f) ∙ sym (y .environment-beyond s (ltb-false s stateLimit f)))))
 
   -- tables of one arena, in buffers that held the same, agree
@@ -138,7 +141,8 @@ module _ (mode : Mode) (G : Arena) (few-inputs : G .inputs ≤ noMove) (few-outp
 tables-same : (n inputs : ℕ) (σ τ σ′ τ′ : List ℕ) → σ ≡ σ′ → τ ≡ τ′ → TablesAgree n inputs σ τ σ′ τ′
 tables-same n inputs σ τ σ′ τ′ e f =
     record {
-      system = subst (λ (t : List ℕ). TableAgrees (λ k. Free n τ Player.system (k / inputs)) σ t) e (record { size = refl; rows = λ k. refl; bytes = λ k z. refl });
+      system = subst (λ (t : List ℕ). TableAgrees (λ k. Free n τ Player.system (k / inputs)) σ t) e
+          (record { size = refl; rows = λ k. refl; bytes = λ k z. refl });
       environment = subst (λ (t : List ℕ). TableAgrees (Free n τ Player.environment) τ t) f (record { size = refl; rows = λ k. refl; bytes = λ k z. refl });
     }
 
@@ -158,7 +162,8 @@ one-follow u v = u .answer ∙ sym (v .answer)
 -- ---- the call for a given automaton
 
 module _ {mode : Mode} (i o : ℕ) {start n : ℕ} {transitions accepting : List ℕ} {mask : ℕ} {σ₀ τ₀ σ τ σ′ τ′ : List ℕ} {r r′ : Answer}
-    (x : GivenSolved mode i o start (arena i o n transitions accepting mask) σ₀ τ₀ σ τ r) (y : GivenSolved mode i o start (arena i o n transitions accepting mask) σ₀ τ₀ σ′ τ′ r′) where
+    (x : GivenSolved mode i o start (arena i o n transitions accepting mask) σ₀ τ₀ σ τ r) (y : GivenSolved mode i o start
+    (arena i o n transitions accepting mask) σ₀ τ₀ σ′ τ′ r′) where
   abbrev given-first : Refusal
   given-first = givenRefusal i o start (arena i o n transitions accepting mask) σ₀ τ₀
 
@@ -191,7 +196,8 @@ module _ {mode : Mode} (i o : ℕ) {start n : ℕ} {transitions accepting : List
 
 -- two runs of the call for a given automaton agree
 pub one-given : {mode : Mode} (i o : ℕ) {start n : ℕ} {transitions accepting : List ℕ} {mask : ℕ} {σ₀ τ₀ σ τ σ′ τ′ : List ℕ} {r r′ : Answer}
-    → GivenSolved mode i o start (arena i o n transitions accepting mask) σ₀ τ₀ σ τ r → GivenSolved mode i o start (arena i o n transitions accepting mask) σ₀ τ₀ σ′ τ′ r′
+    → GivenSolved mode i o start (arena i o n transitions accepting mask) σ₀ τ₀ σ τ r
+    → GivenSolved mode i o start (arena i o n transitions accepting mask) σ₀ τ₀ σ′ τ′ r′
     → GivenAgree n (2 ^ i) σ τ σ′ τ′ r r′
 one-given i o x y = given-agrees i o x y
 

@@ -55,7 +55,8 @@ module _ {fair : Bool} {G : Arena} {outer old inner : List ℕ} {p k : ℕ} {gav
       }
 
   -- that gets the rank p
-  module _ (v : Valid G) (hk : k < G .states) (long : k < length inner) (pos : 0 < p) (un : Unranked outer inner k) (force : Attracts fair G outer inner p k) where
+  module _ (v : Valid G) (hk : k < G .states) (long : k < length inner) (pos : 0 < p) (un : Unranked outer inner k)
+      (force : Attracts fair G outer inner p k) where
     abbrev new : List ℕ
     new = set inner k p
 

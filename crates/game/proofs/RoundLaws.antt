@@ -120,7 +120,8 @@ module _ {fair : Bool} {G : Arena} (v : Valid G) {outer inner : List ℕ} {r : �
           within = at .ranks .within;
           bound = λ t. omega (arith, at .ranks .below t);
           forced = λ u p.
-              forces-map v (not fair) u (Favorable G (not fair) (rankedBelow (getD inner u 0) inner) (rankedBelow rankLimit outer)) (Falls G (not fair) false inner u) (at .ranks .within u p)
+              forces-map v (not fair) u (Favorable G (not fair) (rankedBelow (getD inner u 0) inner) (rankedBelow rankLimit outer))
+              (Falls G (not fair) false inner u) (at .ranks .within u p)
               (λ x t tl d. (
                 total t tl (below-none rankLimit outer t (d .0) (omega (arith, so-far .below t, v .moving .states-fit))),
                 (λ h. ranked-below (getD inner u 0) inner t (d .1 h) .1),

@@ -41,7 +41,8 @@ use Rattle.game.proofs.AnswerLaws.{verdict-number, verdict-place}
 use Rattle.game.proofs.RuleLaws.{some-state, automaton-valid, can-keep, cannot-keep}
 
 -- refused before the automaton is built
-pub refused-early : (mode : Mode) (i o : ℕ) (rule condition : List ℕ) (old : Buffers) (x : Refusal) (mask : ℕ) → (x ≡ Nothing → ⊥) → RuleChecked i o rule condition old x mask → RuleSolved mode i o rule condition old old (Refused x)
+pub refused-early : (mode : Mode) (i o : ℕ) (rule condition : List ℕ) (old : Buffers) (x : Refusal) (mask : ℕ) → (x ≡ Nothing → ⊥)
+    → RuleChecked i o rule condition old x mask → RuleSolved mode i o rule condition old old (Refused x)
 refused-early mode i o rule condition old x mask ne c =
     let n = count-of i o rule (c .reading) (c .read) in
     record {
@@ -72,18 +73,22 @@ built-is x m n e =
 unbuilt-is : (x y : Refusal) (m : ℕ) → Unbuilt y ≡ cond (isNothing x) (Built m) (Unbuilt x) → (isNothing x ≡ false) × (y ≡ x)
 unbuilt-is x y m e =
     ⊎-elim
-    (λ z. absurd (let f : Unbuilt y ≡ Built m = e ∙ ap (λ (w : Refusal). cond (isNothing w) (Built m) (Unbuilt x)) z in let q : _≡_ {A = ℕ} 0 1 = cc in omega arith))
+    (λ z. absurd (let f : Unbuilt y ≡ Built m = e ∙ ap (λ (w : Refusal). cond (isNothing w) (Built m) (Unbuilt x)) z in let q : _≡_ {A = ℕ} 0 1 = cc in
+    omega arith))
     (λ z. (z, let f : Unbuilt y ≡ Unbuilt x = rw z at e in cc))
     (refused-or-served x)
 
 -- the tests were passed, and the construction was asked
-module _ (mode : Mode) (i o : ℕ) (rule condition : List ℕ) (old : Buffers) (mask : ℕ) (check : RuleChecked i o rule condition old Nothing mask) (t a : List ℕ) where
+module _ (mode : Mode) (i o : ℕ) (rule condition : List ℕ) (old : Buffers) (mask : ℕ) (check : RuleChecked i o rule condition old Nothing mask)
+    (t a : List ℕ) where
   abbrev pass : TestsPassed i o rule condition old (check .reading) (check .condition-reading) mask
   pass = check .passed refl
 
   -- the two refusals agree from here on: they go by the number of states
   buffers-pass : shortAutomaton (letterCount i o) (old .transitions) (old .accepting) ≡ false
-  buffers-pass = or-left (shortAutomaton (letterCount i o) (old .transitions) (old .accepting)) (ltb (length (old .system)) (stateLimit * 2 ^ i) || ltb (length (old .environment)) stateLimit) (pass .buffers-fit)
+  buffers-pass =
+      or-left (shortAutomaton (letterCount i o) (old .transitions) (old .accepting))
+      (ltb (length (old .system)) (stateLimit * 2 ^ i) || ltb (length (old .environment)) stateLimit) (pass .buffers-fit)
 
   -- the tables have room
   pub tables-fit : (0 < 2 ^ i) × (stateLimit * 2 ^ i ≤ length (old .system)) × (stateLimit ≤ length (old .environment))
@@ -114,7 +119,8 @@ module _ (mode : Mode) (i o : ℕ) (rule condition : List ℕ) (old : Buffers) (
   by-count true x s e = e
   by-count false x s e = absurd (something x s e)
 
-  pub refused-late : (y : Refusal) → Constructed i o rule (old .transitions) (old .accepting) t a (Unbuilt y) → RuleSolved mode i o rule condition old (buffers t a (old .system) (old .environment)) (Refused y)
+  pub refused-late : (y : Refusal) → Constructed i o rule (old .transitions) (old .accepting) t a (Unbuilt y)
+      → RuleSolved mode i o rule condition old (buffers t a (old .system) (old .environment)) (Refused y)
   refused-late y made =
       let u = unbuilt-is (made .refusal) y (made .states) (made .answer) in
       let e : y ≡ StateCount = u .1 ∙ by-count (ltb stateLimit (made .states)) (made .refusal) (u .0) (counts (Unbuilt y) made) in
@@ -145,7 +151,8 @@ module _ (mode : Mode) (i o : ℕ) (rule condition : List ℕ) (old : Buffers) (
 
     few : n ≤ stateLimit
     few = on (ltb stateLimit n)
-        (λ e. absurd (differs StateCount Nothing (λ z. omega arith) (let f : cond (ltb stateLimit n) StateCount Nothing ≡ Nothing = counted-nothing in rw e at f)))
+        (λ e. absurd (differs StateCount Nothing
+        (λ z. omega arith) (let f : cond (ltb stateLimit n) StateCount Nothing ≡ Nothing = counted-nothing in rw e at f)))
         (λ e. ltb-false stateLimit n e)
       where
         counted-nothing : cond (ltb stateLimit n) StateCount Nothing ≡ Nothing
@@ -163,13 +170,16 @@ module _ (mode : Mode) (i o : ℕ) (rule condition : List ℕ) (old : Buffers) (
     pub starts : 0 < n
     starts = some-state (automaton-of .automaton)
 
-    pub answered : (σ τ : List ℕ) (can : Bool) → Tables mode (arena i o n t a mask) (old .system) (old .environment) σ τ → Verdict mode (arena i o n t a mask) σ τ 0 can
+    pub answered : (σ τ : List ℕ) (can : Bool) → Tables mode (arena i o n t a mask) (old .system) (old .environment) σ τ
+        → Verdict mode (arena i o n t a mask) σ τ 0 can
         → RuleSolved mode i o rule condition old (buffers t a σ τ) (verdictOf can n)
     answered σ τ can tables verdict =
         let s = automaton-of in
         let m = pass .mask-is in
-        let won : Tables mode (arena i o n t a (maskOf (pass .assumption) i)) (old .system) (old .environment) σ τ = subst (λ (k : ℕ). Tables mode (arena i o n t a k) (old .system) (old .environment) σ τ) m tables in
-        let said : Verdict mode (arena i o n t a (maskOf (pass .assumption) i)) σ τ 0 can = subst (λ (k : ℕ). Verdict mode (arena i o n t a k) σ τ 0 can) m verdict in
+        let won : Tables mode (arena i o n t a (maskOf (pass .assumption) i)) (old .system) (old .environment) σ τ =
+        subst (λ (k : ℕ). Tables mode (arena i o n t a k) (old .system) (old .environment) σ τ) m tables in
+        let said : Verdict mode (arena i o n t a (maskOf (pass .assumption) i)) σ τ 0 can =
+        subst (λ (k : ℕ). Verdict mode (arena i o n t a k) σ τ 0 can) m verdict in
         record {
           reading = check .reading;
           read = check .read;
@@ -178,7 +188,8 @@ module _ (mode : Mode) (i o : ℕ) (rule condition : List ℕ) (old : Buffers) (
           states = n;
           counted = subst (λ (m : ℕ). Rattle.automaton.specs.Construction.CountOf i o rule m) (sym (is-served .1)) (made .counted);
           refusal = Nothing;
-          first = sym (is-served .0) ∙ agrees (Built n) made ∙ ap (ruleRefusal i o rule condition old (check .reading) (check .condition-reading)) (sym (is-served .1));
+          first = sym (is-served .0) ∙ agrees (Built n) made
+              ∙ ap (ruleRefusal i o rule condition old (check .reading) (check .condition-reading)) (sym (is-served .1));
           number = verdict-number can n;
           place = verdict-place can n;
           served = λ _. (

@@ -36,7 +36,8 @@ use Rattle.game.specs.inner.RuleChecks.{TestsPassed, RuleChecked}
 condition-alphabet : (i o : ℕ) → badAlphabet i o ≡ false → badAlphabet i 0 ≡ false
 condition-alphabet i o e = rw (le-ltb 4 i (inputs-fit i o e))
 
-condition-first : (i o : ℕ) (condition : List ℕ) (κ : Reading) → badAlphabet i o ≡ false → tooLong condition ≡ false → conditionRefusal i condition κ ≡ afterCondition κ Nothing
+condition-first : (i o : ℕ) (condition : List ℕ) (κ : Reading) → badAlphabet i o ≡ false → tooLong condition ≡ false
+    → conditionRefusal i condition κ ≡ afterCondition κ Nothing
 unfolding conditionRefusal
 condition-first i o condition κ a b = rw (condition-alphabet i o a, b)
 
@@ -47,7 +48,8 @@ record RefusedBy (i : ℕ) (condition : List ℕ) (x : Refusal) : Type 0 where
   is : x ≡ afterCondition reading Nothing
   is-refused : isNothing x ≡ false
 
-by-itself : (i o : ℕ) (condition : List ℕ) (x : Refusal) → badAlphabet i o ≡ false → tooLong condition ≡ false → Conditioned i condition (Refused x) → RefusedBy i condition x
+by-itself : (i o : ℕ) (condition : List ℕ) (x : Refusal) → badAlphabet i o ≡ false → tooLong condition ≡ false → Conditioned i condition (Refused x)
+    → RefusedBy i condition x
 by-itself i o condition x a b c =
     let f = c .first ∙ condition-first i o condition (c .reading) a b in
     ⊎-elim
@@ -80,7 +82,8 @@ served-good (Bad k) e = absurd (something (afterCondition (Bad k) Nothing) refl 
 served-good TooManyNodes e = absurd (something (afterCondition TooManyNodes Nothing) refl e)
 served-good TooManyOperators e = absurd (something (afterCondition TooManyOperators Nothing) refl e)
 
-with-mask : (i o : ℕ) (condition : List ℕ) (mask : ℕ) → badAlphabet i o ≡ false → tooLong condition ≡ false → Conditioned i condition (Mask mask) → MaskedBy i condition mask
+with-mask : (i o : ℕ) (condition : List ℕ) (mask : ℕ) → badAlphabet i o ≡ false → tooLong condition ≡ false → Conditioned i condition (Mask mask)
+    → MaskedBy i condition mask
 with-mask i o condition mask a b c =
     let f = c .first ∙ condition-first i o condition (c .reading) a b in
     ⊎-elim
@@ -96,12 +99,14 @@ with-mask i o condition mask a b c =
 -- ---- the tests in their order
 
 module _ (i o : ℕ) (rule condition : List ℕ) (old : Buffers) (mask : ℕ) where
-  refused : (ρ : Reading) → ReadingOf i (ruleKind i o) rule ρ → (κ : Reading) → ReadingOf i (conditionKind i) condition κ → (x : Refusal) → isNothing x ≡ false → (x ≡ StateCount → ⊥)
+  refused : (ρ : Reading) → ReadingOf i (ruleKind i o) rule ρ → (κ : Reading) → ReadingOf i (conditionKind i) condition κ → (x : Refusal) → isNothing x ≡ false
+      → (x ≡ StateCount → ⊥)
       → ((n : ℕ) → x ≡ ruleRefusal i o rule condition old ρ κ n) → RuleChecked i o rule condition old x mask
   refused ρ r κ k x s d e =
       record { reading = ρ; read = r; condition-reading = κ; condition-read = k; first = λ _. e; not-count = d; passed = λ z. absurd (something x s z) }
 
-  unread : (x : Refusal) → isNothing x ≡ false → (x ≡ StateCount → ⊥) → ((ρ κ : Reading) (n : ℕ) → x ≡ ruleRefusal i o rule condition old ρ κ n) → RuleChecked i o rule condition old x mask
+  unread : (x : Refusal) → isNothing x ≡ false → (x ≡ StateCount → ⊥) → ((ρ κ : Reading) (n : ℕ) → x ≡ ruleRefusal i o rule condition old ρ κ n)
+      → RuleChecked i o rule condition old x mask
   unread x s d e =
       let r = some-reading i o true rule in
       let k = some-reading i 0 false condition in
@@ -126,7 +131,8 @@ module _ (i o : ℕ) (rule condition : List ℕ) (old : Buffers) (mask : ℕ) wh
       by-buffer d = unread Buffer refl (differs Buffer StateCount (λ e. omega arith)) (λ ρ κ n. rw (a, b, c, d))
 
       module _ (d : shortBuffers i o old ≡ false) where
-        pub by-rule : (ρ : Reading) → ReadingOf i (ruleKind i o) rule ρ → NotGood ρ → (x : Refusal) → x ≡ afterRule ρ Nothing → RuleChecked i o rule condition old x mask
+        pub by-rule : (ρ : Reading) → ReadingOf i (ruleKind i o) rule ρ → NotGood ρ → (x : Refusal) → x ≡ afterRule ρ Nothing
+            → RuleChecked i o rule condition old x mask
         unfolding ruleRefusal
         by-rule ρ r g x e =
             let f = rule-refused ρ g in
@@ -134,7 +140,8 @@ module _ (i o : ℕ) (rule condition : List ℕ) (old : Buffers) (mask : ℕ) wh
             refused ρ r (k .0) (k .1) x (ap isNothing e ∙ f .is-refused) (λ z. f .not-count (sym e ∙ z))
             (λ n. rw (a, b, c, d) (e ∙ sym (f .first (afterCondition (k .0) (cond (ltb stateLimit n) StateCount Nothing)))))
 
-        pub by-condition : (m : ℕ) → ReadingOf i (ruleKind i o) rule (Good m) → (x : Refusal) → Conditioned i condition (Refused x) → RuleChecked i o rule condition old x mask
+        pub by-condition : (m : ℕ) → ReadingOf i (ruleKind i o) rule (Good m) → (x : Refusal) → Conditioned i condition (Refused x)
+            → RuleChecked i o rule condition old x mask
         unfolding ruleRefusal
         by-condition m r x v =
             let w = by-itself i o condition x a c v in
@@ -185,8 +192,16 @@ module _ (i o : ℕ) (old : Buffers) (L : ℕ) (e : L ≡ letterCount i o) where
     module _ (a : stateLimit ≤ length (old .accepting)) (P : ℕ) (p : P ≡ 2 ^ i) where
       pub system-short : length (old .system) < stateLimit * P → true ≡ shortBuffers i o old
       system-short h =
-          rw (t′, le-ltb (length (old .accepting)) stateLimit a, lt-ltb (length (old .system)) (stateLimit * 2 ^ i) (subst (λ (M : ℕ). length (old .system) < stateLimit * M) p h))
+          rw (
+            t′,
+            le-ltb (length (old .accepting)) stateLimit a,
+            lt-ltb (length (old .system)) (stateLimit * 2 ^ i) (subst (λ (M : ℕ). length (old .system) < stateLimit * M) p h),
+          )
 
       pub environment-short : stateLimit * P ≤ length (old .system) → ltb (length (old .environment)) stateLimit ≡ shortBuffers i o old
       environment-short h =
-          rw (t′, le-ltb (length (old .accepting)) stateLimit a, le-ltb (length (old .system)) (stateLimit * 2 ^ i) (subst (λ (M : ℕ). stateLimit * M ≤ length (old .system)) p h))
+          rw (
+            t′,
+            le-ltb (length (old .accepting)) stateLimit a,
+            le-ltb (length (old .system)) (stateLimit * 2 ^ i) (subst (λ (M : ℕ). stateLimit * M ≤ length (old .system)) p h),
+          )

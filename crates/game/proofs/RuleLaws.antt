@@ -44,7 +44,8 @@ module _ (G : Arena) where
   walk-run s (a ∷ p) = walk-run (entered G s a) p
 
   -- steps in range are letters
-  steps-letters : (R : ℕ → Step → Type 0) → ((s : ℕ) (a : Step) → R s a → Legal G a) → (s : ℕ) (p : List Step) → Along G R s p → Letters (G .inputs * G .outputs) (letters G p)
+  steps-letters : (R : ℕ → Step → Type 0) → ((s : ℕ) (a : Step) → R s a → Legal G a) → (s : ℕ) (p : List Step) → Along G R s p
+      → Letters (G .inputs * G .outputs) (letters G p)
   unfolding Along letters Letters
   steps-letters R legal s [] h = tt
   steps-letters R legal s (a ∷ p) h =
@@ -64,7 +65,8 @@ module _ (φ : Formula) (G : Arena) (automaton : Automaton φ (G .inputs * G .ou
   run-below s [] l h = l
   run-below s (a ∷ p) l h =
       let r = legal s a (h .0) in
-      run-below (entered G s a) p (automaton .moved s (letterOf (G .inputs) (a .input) (a .output)) l (letter-below (G .inputs) (G .outputs) (a .input) (a .output) (r .0) (r .1)) .0) (h .1)
+      run-below (entered G s a) p (automaton .moved s (letterOf (G .inputs) (a .input) (a .output)) l
+      (letter-below (G .inputs) (G .outputs) (a .input) (a .output) (r .0) (r .1)) .0) (h .1)
 
   -- an accepting state's flag is 1
   goal-flag : (s : ℕ) → s < G .states → goal G s ≡ true → getD (G .accepting) s 0 ≡ 1
@@ -92,7 +94,8 @@ module _ (φ : Formula) (G : Arena) (automaton : Automaton φ (G .inputs * G .ou
   beginning-meaning p zero z l h = absurd (let z : ⊥ = omega arith in z)
   beginning-meaning [] (suc k) z l h = absurd (let z : ⊥ = omega arith in z)
   beginning-meaning (a ∷ p) (suc k) z l h =
-      subst (λ (w : List ℕ). (goal G (run G 0 (a ∷ take k p)) ≡ true) ↔ Satisfies φ w) (sym (take-letters G (a ∷ p) (suc k))) (play-meaning a (take k p) (take-along G R 0 (a ∷ p) (suc k) h))
+      subst (λ (w : List ℕ). (goal G (run G 0 (a ∷ take k p)) ≡ true) ↔ Satisfies φ w) (sym (take-letters G (a ∷ p) (suc k)))
+      (play-meaning a (take k p) (take-along G R 0 (a ∷ p) (suc k) h))
 
   pub reached-satisfied : (p : List Step) → Along G R 0 p → reaches G 0 p ≡ true → Satisfied φ G p
   reached-satisfied p h e =
@@ -121,7 +124,8 @@ module _ (φ : Formula) (i o n : ℕ) (transitions flags : List ℕ) (mask : ℕ
           inputs-fit = small-power i (inputs-fit i o a);
           outputs-fit = small-power o (outputs-fit i o a);
           long = omega (arith, mul-le-mul-right L few, ap (λ (m : ℕ). stateLimit * m) (pow-add 2 i o));
-          closed = λ k h. subst (λ (j : ℕ). getD transitions j 0 < n) (div-add-mod' k L) (on-product .moved (k / L) (k % L) (div-lt-iff-lt-mul positive .1 h) (mod-lt k positive) .0);
+          closed = λ k h. subst (λ (j : ℕ). getD transitions j 0 < n) (div-add-mod' k L)
+              (on-product .moved (k / L) (k % L) (div-lt-iff-lt-mul positive .1 h) (mod-lt k positive) .0);
         };
         accepting-long = omega arith;
       }

@@ -1,4 +1,5 @@
--- From filled tables to demand 3: each state is won by the player that has a rank there, by its table, and the environment's byte at the start tells the verdict.
+-- From filled tables to demand 3: each state is won by the player that has a rank there, by its table, and the environment's byte at the start tells the
+-- verdict.
 -- Assumes nothing.
 use Prim.Native.Nat.{ℕ, _+_, _*_, _/_, _%_, _<_, _≤_}
 use mathlib.Core.Path.{_≡_, _∙_, subst₂}

@@ -53,7 +53,8 @@ some-rank r limit t e =
     }
 
 -- a rank falls as it should exactly when it is below the limit
-pub falls-limit : (G : Arena) (player steady : Bool) (r : List ℕ) → ((t : ℕ) → getD r t 0 ≤ stateLimit) → (s x t : ℕ) → 0 < getD r s 0 → (b : Bool) → b ≡ judged G player x
+pub falls-limit : (G : Arena) (player steady : Bool) (r : List ℕ) → ((t : ℕ) → getD r t 0 ≤ stateLimit) → (s x t : ℕ) → 0 < getD r s 0 → (b : Bool)
+    → b ≡ judged G player x
     → Falls G player steady r s x t → Below r (limitOf steady b (getD r s 0)) t
 falls-limit G player steady r h s x t p true e d = (d .0, omega (arith, d .1 (sym e)))
 falls-limit G player true r h s x t p false e d = (d .0, d .2 refl)

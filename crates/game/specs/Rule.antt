@@ -83,7 +83,8 @@ pub record RuleServed (mode : Mode) (i o : ℕ) (rule condition : List ℕ) (old
   pub automaton : Automaton formula (letterCount i o) n (new .transitions) (new .accepting)
   pub transitions-rest : Cleared (n * letterCount i o) (stateLimit * letterCount i o) (old .transitions) (new .transitions)
   pub accepting-rest : Cleared n stateLimit (old .accepting) (new .accepting)
-  pub tables : Tables mode (arena i o n (new .transitions) (new .accepting) (maskOf assumption i)) (old .system) (old .environment) (new .system) (new .environment)
+  pub tables : Tables mode (arena i o n (new .transitions) (new .accepting) (maskOf assumption i))
+      (old .system) (old .environment) (new .system) (new .environment)
   pub verdict : Verdict mode (arena i o n (new .transitions) (new .accepting) (maskOf assumption i)) (new .system) (new .environment) 0 can
   pub can-promise : can ≡ true → Can mode formula (arena i o n (new .transitions) (new .accepting) (maskOf assumption i)) (new .system)
   pub cannot-promise : can ≡ false → Cannot mode formula (arena i o n (new .transitions) (new .accepting) (maskOf assumption i)) (new .environment)

@@ -53,7 +53,8 @@ fn later_refusal(
     environment: &[u8],
 ) -> Refusal
     requires { ⌜ InRange sizes ⌝ }
-    ensures { λ r. ⌜ r ≡ laterRefusal start (arenaAt sizes (now (transitions .entry)) (now (accepting .entry)) mask) (now (system .entry)) (now (environment .entry)) ⌝ }
+    ensures { λ r. ⌜ r ≡ laterRefusal start (arenaAt sizes (now (transitions .entry)) (now (accepting .entry)) mask)
+        (now (system .entry)) (now (environment .entry)) ⌝ }
 {
     if short_read(sizes, transitions, accepting) {
         return Refusal::Buffer;
@@ -90,7 +91,8 @@ fn given_refusal(
     system: &[u8],
     environment: &[u8],
 ) -> Refusal
-    ensures { λ r. ⌜ r ≡ givenRefusal i o start (arena i o n (now (transitions .entry)) (now (accepting .entry)) mask) (now (system .entry)) (now (environment .entry)) ⌝ }
+    ensures { λ r. ⌜ r ≡ givenRefusal i o start (arena i o n (now (transitions .entry)) (now (accepting .entry)) mask)
+        (now (system .entry)) (now (environment .entry)) ⌝ }
 {
     if bad_alphabet(i, o) {
         return Refusal::Alphabet;
@@ -123,7 +125,8 @@ pub fn solve_given(
     system: &mut [u8],
     environment: &mut [u8],
 ) -> Answer
-    ensures { λ r. ⌜ GivenSolved mode i o start (arena i o n (now (transitions .entry)) (now (accepting .entry)) mask) (now (system .entry)) (now (environment .entry)) (now (system .exit)) (now (environment .exit)) r ⌝ }
+    ensures { λ r. ⌜ GivenSolved mode i o start (arena i o n (now (transitions .entry)) (now (accepting .entry)) mask)
+        (now (system .entry)) (now (environment .entry)) (now (system .exit)) (now (environment .exit)) r ⌝ }
 {
     let refusal = given_refusal(
         i,

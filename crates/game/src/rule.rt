@@ -56,7 +56,8 @@ fn short_buffers(
 // The refusal by the two texts, once the earlier tests are passed, or the condition's mask.
 fn check_texts(i: usize, o: usize, rule: &[u8], condition: &[u8]) -> Checked
     requires { ⌜ (badAlphabet i o ≡ false) × (tooLong (now rule) ≡ false) × (tooLong (now condition) ≡ false) ⌝ }
-    ensures { λ r. ⌜ ((old : Buffers) → shortBuffers i o old ≡ false → RuleChecked i o (now (rule .entry)) (now (condition .entry)) old (r .refusal) (r .mask)) ⌝ }
+    ensures { λ r. ⌜ ((old : Buffers) → shortBuffers i o old ≡ false
+        → RuleChecked i o (now (rule .entry)) (now (condition .entry)) old (r .refusal) (r .mask)) ⌝ }
 {
     let reading = check(rule, i as u8, o as u8, true);
     let Reading::Good(_) = reading else {
@@ -88,7 +89,8 @@ fn check_rule(
     system: &[u8],
     environment: &[u8],
 ) -> Checked
-    ensures { λ r. ⌜ RuleChecked i o (now (rule .entry)) (now (condition .entry)) (buffers (now (transitions .entry)) (now (accepting .entry)) (now (system .entry)) (now (environment .entry))) (r .refusal) (r .mask) ⌝ }
+    ensures { λ r. ⌜ RuleChecked i o (now (rule .entry)) (now (condition .entry))
+        (buffers (now (transitions .entry)) (now (accepting .entry)) (now (system .entry)) (now (environment .entry))) (r .refusal) (r .mask) ⌝ }
 {
     if bad_alphabet(i, o) {
         return Checked {
@@ -129,7 +131,9 @@ pub fn solve_rule(
     system: &mut [u8],
     environment: &mut [u8],
 ) -> Answer
-    ensures { λ r. ⌜ RuleSolved mode i o (now (rule .entry)) (now (condition .entry)) (buffers (now (transitions .entry)) (now (accepting .entry)) (now (system .entry)) (now (environment .entry))) (buffers (now (transitions .exit)) (now (accepting .exit)) (now (system .exit)) (now (environment .exit))) r ⌝ }
+    ensures { λ r. ⌜ RuleSolved mode i o (now (rule .entry)) (now (condition .entry))
+        (buffers (now (transitions .entry)) (now (accepting .entry)) (now (system .entry)) (now (environment .entry)))
+        (buffers (now (transitions .exit)) (now (accepting .exit)) (now (system .exit)) (now (environment .exit))) r ⌝ }
 {
     let checked = check_rule(
         i,

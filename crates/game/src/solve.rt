@@ -65,7 +65,8 @@ fn serves(
 ) -> bool
     requires { ⌜ Valid (arenaOf g (now transitions) (now accepting)) ⌝ }
     requires { ⌜ (s < g .states) × (x < g .inputs) × (y < g .outputs) ⌝ }
-    ensures { λ r. ⌜ r ≡ serving (arenaOf g (now (transitions .entry)) (now (accepting .entry))) (rankedBelow (limits .won) (now (won .entry))) (rankedBelow (limits .lost) (now (lost .entry))) s x y ⌝ }
+    ensures { λ r. ⌜ r ≡ serving (arenaOf g (now (transitions .entry)) (now (accepting .entry)))
+        (rankedBelow (limits .won) (now (won .entry))) (rankedBelow (limits .lost) (now (lost .entry))) s x y ⌝ }
 {
     let t = enters(g, transitions, s, x, y);
     if accepting[t] != 0 {
@@ -105,7 +106,8 @@ fn unserved(
 ) -> usize
     requires { ⌜ Valid (arenaOf g (now transitions) (now accepting)) ⌝ }
     requires { ⌜ s < g .states ⌝ }
-    ensures { λ r. ⌜ FirstUnserved (arenaOf g (now (transitions .entry)) (now (accepting .entry))) (rankedBelow (limits .won) (now (won .entry))) (rankedBelow (limits .lost) (now (lost .entry))) s r ⌝ }
+    ensures { λ r. ⌜ FirstUnserved (arenaOf g (now (transitions .entry)) (now (accepting .entry)))
+        (rankedBelow (limits .won) (now (won .entry))) (rankedBelow (limits .lost) (now (lost .entry))) s r ⌝ }
 {
     let inputs = g.inputs;
     let outputs = g.outputs;
@@ -193,7 +195,8 @@ fn pass(
     requires { ⌜ Valid (arenaOf g (now transitions) (now accepting)) ⌝ }
     requires { ⌜ InnerRanks (g .fair) (arenaOf g (now transitions) (now accepting)) (now outer) (now inner) p ⌝ }
     requires { ⌜ length (now inner) ≡ stateLimit ⌝ }
-    ensures { λ r. ⌜ Passed (g .fair) (arenaOf g (now (transitions .entry)) (now (accepting .entry))) (now (outer .entry)) (now (inner .entry)) (now (inner .exit)) p (g .states) r ⌝ }
+    ensures { λ r. ⌜ Passed (g .fair) (arenaOf g (now (transitions .entry)) (now (accepting .entry)))
+        (now (outer .entry)) (now (inner .entry)) (now (inner .exit)) p (g .states) r ⌝ }
     ensures { λ r. ⌜ length (now (inner .exit)) ≡ stateLimit ⌝ }
 {
     let states = g.states;

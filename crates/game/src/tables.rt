@@ -197,7 +197,8 @@ fn fill_system(
     requires { ⌜ Valid (arenaOf g (now transitions) (now accepting)) ⌝ }
     requires { ⌜ Ranked (arenaOf g (now transitions) (now accepting)) true (g .fair) (now ranks) ⌝ }
     requires { ⌜ (0 < g .inputs) × (stateLimit * g .inputs ≤ length (now system)) ⌝ }
-    ensures { λ _. ⌜ SystemFilled (g .fair) (arenaOf g (now (transitions .entry)) (now (accepting .entry))) (now (ranks .entry)) (now (system .entry)) (now (system .exit)) ⌝ }
+    ensures { λ _. ⌜ SystemFilled (g .fair) (arenaOf g (now (transitions .entry)) (now (accepting .entry))) (now (ranks .entry))
+        (now (system .entry)) (now (system .exit)) ⌝ }
 {
     let inputs = g.inputs;
     let total = STATE_LIMIT * inputs;
@@ -221,7 +222,8 @@ fn fill_environment(
     requires { ⌜ Valid (arenaOf g (now transitions) (now accepting)) ⌝ }
     requires { ⌜ Ranked (arenaOf g (now transitions) (now accepting)) false (not (g .fair)) (now ranks) ⌝ }
     requires { ⌜ stateLimit ≤ length (now environment) ⌝ }
-    ensures { λ _. ⌜ EnvironmentFilled (g .fair) (arenaOf g (now (transitions .entry)) (now (accepting .entry))) (now (ranks .entry)) (now (environment .entry)) (now (environment .exit)) ⌝ }
+    ensures { λ _. ⌜ EnvironmentFilled (g .fair) (arenaOf g (now (transitions .entry)) (now (accepting .entry))) (now (ranks .entry))
+        (now (environment .entry)) (now (environment .exit)) ⌝ }
 {
     let mut s: usize = 0;
     while s < STATE_LIMIT {
@@ -243,7 +245,8 @@ fn fill(
     requires { ⌜ Valid (arenaOf g (now transitions) (now accepting)) ⌝ }
     requires { ⌜ Ranking (g .fair) (arenaOf g (now transitions) (now accepting)) (now «system_ranks») (now «environment_ranks») ⌝ }
     requires { ⌜ (0 < g .inputs) × (stateLimit * g .inputs ≤ length (now system)) × (stateLimit ≤ length (now environment)) ⌝ }
-    ensures { λ _. ⌜ Tables (modeOf (g .fair)) (arenaOf g (now (transitions .entry)) (now (accepting .entry))) (now (system .entry)) (now (environment .entry)) (now (system .exit)) (now (environment .exit)) ⌝ }
+    ensures { λ _. ⌜ Tables (modeOf (g .fair)) (arenaOf g (now (transitions .entry)) (now (accepting .entry)))
+        (now (system .entry)) (now (environment .entry)) (now (system .exit)) (now (environment .exit)) ⌝ }
 {
     fill_system(g, transitions, accepting, system_ranks, system);
     fill_environment(g, transitions, accepting, environment_ranks, environment);
@@ -261,8 +264,10 @@ pub(crate) fn decide(
     requires { ⌜ Valid (arenaOf g (now transitions) (now accepting)) ⌝ }
     requires { ⌜ start < g .states ⌝ }
     requires { ⌜ (0 < g .inputs) × (stateLimit * g .inputs ≤ length (now system)) × (stateLimit ≤ length (now environment)) ⌝ }
-    ensures { λ r. ⌜ Tables (modeOf (g .fair)) (arenaOf g (now (transitions .entry)) (now (accepting .entry))) (now (system .entry)) (now (environment .entry)) (now (system .exit)) (now (environment .exit)) ⌝ }
-    ensures { λ r. ⌜ Verdict (modeOf (g .fair)) (arenaOf g (now (transitions .entry)) (now (accepting .entry))) (now (system .exit)) (now (environment .exit)) start r ⌝ }
+    ensures { λ r. ⌜ Tables (modeOf (g .fair)) (arenaOf g (now (transitions .entry)) (now (accepting .entry)))
+        (now (system .entry)) (now (environment .entry)) (now (system .exit)) (now (environment .exit)) ⌝ }
+    ensures { λ r. ⌜ Verdict (modeOf (g .fair)) (arenaOf g (now (transitions .entry)) (now (accepting .entry)))
+        (now (system .exit)) (now (environment .exit)) start r ⌝ }
 {
     let ranks = solve(g, transitions, accepting);
     let system_ranks = ranks.system;

@@ -62,7 +62,8 @@ failed-later Fair G a p h = row-later (lacks G) (G .states) (a ∷ []) p h
 failed-later Stable G a p h = on (lacks G (a .input)) (λ e. rw e (omega arith)) (λ e. rw e h)
 
 module _ (mode : Mode) (G : Arena) where
-  pub system-later : (σ : List ℕ) (s : ℕ) (a : Step) → BySystem G σ s a → goal G (entered G s a) ≡ false → SystemWins mode G σ s → SystemWins mode G σ (entered G s a)
+  pub system-later : (σ : List ℕ) (s : ℕ) (a : Step) → BySystem G σ s a → goal G (entered G s a) ≡ false → SystemWins mode G σ s
+      → SystemWins mode G σ (entered G s a)
   unfolding Along run
   system-later σ s a h e w =
       record {
@@ -70,7 +71,8 @@ module _ (mode : Mode) (G : Arena) where
         answers = λ p l m. w .answers (a ∷ p) (h, l) (reaches-later G s a p e ∙ m);
       }
 
-  pub environment-later : (τ : List ℕ) (s : ℕ) (a : Step) → ByEnvironment G τ s a → goal G (entered G s a) ≡ false → EnvironmentWins mode G τ s → EnvironmentWins mode G τ (entered G s a)
+  pub environment-later : (τ : List ℕ) (s : ℕ) (a : Step) → ByEnvironment G τ s a → goal G (entered G s a) ≡ false → EnvironmentWins mode G τ s
+      → EnvironmentWins mode G τ (entered G s a)
   unfolding Along run
   environment-later τ s a h e w =
       record {
@@ -106,13 +108,15 @@ module _ (G : Arena) (σ τ : List ℕ) where
     unfolding Along reaches
     avoided s w v = or-left (goal G (entered G s (both-step s))) false (v .avoiding (both-step s ∷ []) (legal s w v .1, tt))
 
-    both-along : (k s : ℕ) → SystemWins mode G σ s → EnvironmentWins mode G τ s → Along G (BySystem G σ) s (both-play k s) × Along G (ByEnvironment G τ) s (both-play k s)
+    both-along : (k s : ℕ) → SystemWins mode G σ s → EnvironmentWins mode G τ s
+        → Along G (BySystem G σ) s (both-play k s) × Along G (ByEnvironment G τ) s (both-play k s)
     unfolding Along both-play
     both-along zero s w v = (tt, tt)
     both-along (suc k) s w v =
         let l = legal s w v in
         let e = avoided s w v in
-        let r = both-along k (entered G s (both-step s)) (system-later mode G σ s (both-step s) (l .0) e w) (environment-later mode G τ s (both-step s) (l .1) e v) in
+        let r = both-along k (entered G s (both-step s)) (system-later mode G σ s (both-step s) (l .0) e w)
+        (environment-later mode G τ s (both-step s) (l .1) e v) in
         ((l .0, r .0), (l .1, r .1))
 
 -- the environment's assumption is broken, or the system's is met

@@ -115,17 +115,20 @@ module _ (c : ℕ → Bool) where
   )
 
 -- what fails fewer than b times in every beginning cannot fail to hold from some step on
-few-failures : (c d : ℕ → Bool) → ((x : ℕ) → c x ≡ false → d x ≡ true) → (b : ℕ) (f : ℕ → Step) → ((k : ℕ) → count d (first f k) < b) → (Finally c (inputs f) → ⊥) → ⊥
+few-failures : (c d : ℕ → Bool) → ((x : ℕ) → c x ≡ false → d x ≡ true) → (b : ℕ) (f : ℕ → Step) → ((k : ℕ) → count d (first f k) < b)
+    → (Finally c (inputs f) → ⊥) → ⊥
 few-failures c d o zero f few broken = let z = few 0 in omega arith
 few-failures c d o (suc b) f few broken =
     broken (
       0,
       λ j h. on (c (f j .input)) (λ e. e)
-          (λ e. absurd (few-failures c d o b (from (suc j) f) (λ k. omega (arith, few (suc j + k), count-behind d f j k (o (f j .input) e))) (λ w. broken (finally-from c f (suc j) w)))),
+          (λ e. absurd (few-failures c d o b (from (suc j) f) (λ k. omega (arith, few (suc j + k), count-behind d f j k (o (f j .input) e)))
+          (λ w. broken (finally-from c f (suc j) w)))),
     )
 
 -- and holds from some step on, if a test passes somewhere or nowhere
-few-finally : Omniscience → (c d : ℕ → Bool) → ((x : ℕ) → d x ≡ false → c x ≡ true) → (b : ℕ) (f : ℕ → Step) → ((k : ℕ) → count d (first f k) < b) → Finally c (inputs f)
+few-finally : Omniscience → (c d : ℕ → Bool) → ((x : ℕ) → d x ≡ false → c x ≡ true) → (b : ℕ) (f : ℕ → Step) → ((k : ℕ) → count d (first f k) < b)
+    → Finally c (inputs f)
 few-finally omniscience c d o zero f few = absurd (let z = few 0 in let y : ⊥ = omega arith in y)
 few-finally omniscience c d o (suc b) f few =
     ⊎-elim

@@ -36,7 +36,8 @@ module _ (G : Arena) (R : ℕ → Step → Type 0) (player steady : Bool) (r : L
       stays (entered G s a) p (falls s a w (h .0) (first-avoids G s a p e) .0) (h .1) (others-avoid G s a p e)
 
   -- steps all of which are judged take as much off the rank as they are many
-  pub row-falls : (s : ℕ) (p : List Step) → 0 < getD r s 0 → Along G R s p → reaches G s p ≡ false → Every (judged G player) p → length p + getD r (run G s p) 0 ≤ getD r s 0
+  pub row-falls : (s : ℕ) (p : List Step) → 0 < getD r s 0 → Along G R s p → reaches G s p ≡ false → Every (judged G player) p
+      → length p + getD r (run G s p) 0 ≤ getD r s 0
   unfolding Along run Every
   row-falls s [] w h e v = omega arith
   row-falls s (a ∷ p) w h e v =
@@ -45,7 +46,8 @@ module _ (G : Arena) (R : ℕ → Step → Type 0) (player steady : Bool) (r : L
       omega (arith, rest, d .1 (v .0))
 
   -- and so do the judged ones among others, where the ranks are steady
-  pub count-falls : steady ≡ true → (s : ℕ) (p : List Step) → 0 < getD r s 0 → Along G R s p → reaches G s p ≡ false → count (judged G player) p + getD r (run G s p) 0 ≤ getD r s 0
+  pub count-falls : steady ≡ true → (s : ℕ) (p : List Step) → 0 < getD r s 0 → Along G R s p → reaches G s p ≡ false
+      → count (judged G player) p + getD r (run G s p) 0 ≤ getD r s 0
   unfolding Along run count
   count-falls t s [] w h e = omega arith
   count-falls t s (a ∷ p) w h e =
@@ -90,28 +92,33 @@ module _ (fair : Bool) (G : Arena) (σ r : List ℕ) (bound : (s : ℕ) → getD
   system-falls : (s : ℕ) (a : Step) → 0 < getD r s 0 → BySystem G σ s a → goal G (entered G s a) ≡ false → Falls G true fair r s (a .input) (entered G s a)
   system-falls s a w h e =
       no-goal (goal G (entered G s a)) e
-      (subst (λ (y : ℕ). Safe G true (next G s (a .input) y) (Falls G true fair r s (a .input) (next G s (a .input) y))) (sym (h .1)) (allowed s w (a .input) (h .0 .0) .1))
+      (subst (λ (y : ℕ). Safe G true (next G s (a .input) y) (Falls G true fair r s (a .input) (next G s (a .input) y))) (sym (h .1))
+      (allowed s w (a .input) (h .0 .0) .1))
 
   pub system-wins : (s : ℕ) → 0 < getD r s 0 → SystemWins (modeOf fair) G σ s
   system-wins s w =
       record {
-        reaching = λ p h o. not-false-is-true (reaches G s p) (λ e. not-often G (BySystem G σ) true fair r system-falls bound s p w h e (assumed-often fair G p o));
+        reaching = λ p h o. not-false-is-true (reaches G s p)
+            (λ e. not-often G (BySystem G σ) true fair r system-falls bound s p w h e (assumed-often fair G p o));
         answers = λ p h e x l. allowed (run G s p) (stays G (BySystem G σ) true fair r system-falls bound s p w h e) x l .0;
       }
 
 -- the environment's table holds an input that the ranks allow for each state with a rank
 module _ (fair : Bool) (G : Arena) (τ r : List ℕ) (bound : (s : ℕ) → getD r s 0 ≤ G .states)
     (allowed : (s : ℕ) → 0 < getD r s 0 → AllowedInput fair G r s (environmentByte τ s)) where
-  environment-step : (s : ℕ) (a : Step) → 0 < getD r s 0 → ByEnvironment G τ s a → Safe G false (entered G s a) (Falls G false (not fair) r s (a .input) (entered G s a))
+  environment-step : (s : ℕ) (a : Step) → 0 < getD r s 0 → ByEnvironment G τ s a
+      → Safe G false (entered G s a) (Falls G false (not fair) r s (a .input) (entered G s a))
   environment-step s a w h =
-      subst (λ (x : ℕ). Safe G false (next G s x (a .output)) (Falls G false (not fair) r s x (next G s x (a .output)))) (sym (h .1)) (allowed s w .1 (a .output) (h .0 .1))
+      subst (λ (x : ℕ). Safe G false (next G s x (a .output)) (Falls G false (not fair) r s x (next G s x (a .output)))) (sym (h .1))
+      (allowed s w .1 (a .output) (h .0 .1))
 
   avoids : (s : ℕ) (p : List Step) → 0 < getD r s 0 → Along G (ByEnvironment G τ) s p → reaches G s p ≡ false
   unfolding reaches Along
   avoids s [] w h = refl
   avoids s (a ∷ p) w h = let d = environment-step s a w (h .0) in rw (d .0) (avoids (entered G s a) p (d .1 .0) (h .1))
 
-  environment-falls : (s : ℕ) (a : Step) → 0 < getD r s 0 → ByEnvironment G τ s a → goal G (entered G s a) ≡ false → Falls G false (not fair) r s (a .input) (entered G s a)
+  environment-falls : (s : ℕ) (a : Step) → 0 < getD r s 0 → ByEnvironment G τ s a → goal G (entered G s a) ≡ false
+      → Falls G false (not fair) r s (a .input) (entered G s a)
   environment-falls s a w h e = environment-step s a w h .1
 
   pub environment-wins : (s : ℕ) → 0 < getD r s 0 → EnvironmentWins (modeOf fair) G τ s

@@ -12,7 +12,8 @@ use Rattle.plays.specs.declared.mode.Mode.the-variants.{Fair, Stable}
 use Rattle.plays.specs.Arena.{Arena, goal, holds}
 use Rattle.plays.specs.Play.{Step, entered, run, reaches, Along}
 use Rattle.plays.specs.Strategy.{systemByte, environmentByte, BySystem, ByEnvironment, SystemWins, EnvironmentWins}
-use Rattle.plays.specs.Way.{SystemWay, EnvironmentWay, Outputs, Inputs, bySystem, byEnvironment, ordered, meeting, systemAfter, environmentAfter, meet, Chosen}
+use Rattle.plays.specs.Way.{SystemWay, EnvironmentWay, Outputs, Inputs, bySystem, byEnvironment, ordered, meeting, systemAfter}
+use Rattle.plays.specs.Way.{environmentAfter, meet, Chosen}
 use Rattle.plays.specs.Endless.{first, inputs, Follows, Promised, Reaching, Kept, CanEndless, Defeated, CannotEndless}
 use Rattle.reader.proofs.BoolLaws.{on, clash, or-left}
 use Rattle.plays.proofs.PlayLaws.{reaches-later}
@@ -49,7 +50,8 @@ module _ (G : Arena) where
   at-goal R s a h e = ((h, tt), rw e)
 
   -- one step more before a play that reaches a goal
-  before-goal : (R : ℕ → Step → Type 0) (s : ℕ) (a : Step) (p : List Step) → R s a → Along G R (entered G s a) p → goal G (entered G s a) ≡ false → Reaching G (entered G s a) p
+  before-goal : (R : ℕ → Step → Type 0) (s : ℕ) (a : Step) (p : List Step) → R s a → Along G R (entered G s a) p → goal G (entered G s a) ≡ false
+      → Reaching G (entered G s a) p
       → Along G R s (a ∷ p) × Reaching G s (a ∷ p)
   unfolding Along
   before-goal R s a p h l e r = ((h, l), reaches-later G s a p e ∙ r)
@@ -95,7 +97,8 @@ module _ (G : Arena) where
 
   module _ (mode : Mode) (τ : List ℕ) where
     -- the play that a way of the system makes with a strategy that wins follows the strategy
-    environment-made : (k s : ℕ) (ω : SystemWay) → Outputs G ω → EnvironmentWins mode G τ s → Along G (ByEnvironment G τ) s (first (meet (byEnvironment G τ s) ω) k)
+    environment-made : (k s : ℕ) (ω : SystemWay) → Outputs G ω → EnvironmentWins mode G τ s
+        → Along G (ByEnvironment G τ) s (first (meet (byEnvironment G τ s) ω) k)
     unfolding Along reaches run first meet
     environment-made zero s ω legal w = tt
     environment-made (suc k) s ω legal w =

@@ -12,7 +12,8 @@ use Rattle.game.proofs.arena.enters.Tie as tie
 facts : (c : tie.Start) → At (c .args .g .states) (c .args .g .inputs) (c .args .g .outputs) (c .args .s) (c .args .x) (c .args .y)
 facts c =
     let v = c .pre .0 in
-    at-facts (c .args .g .states) (c .args .g .inputs) (c .args .g .outputs) (c .args .s) (c .args .x) (c .args .y) (v .states-fit) (v .inputs-fit) (v .outputs-fit) (c .pre .1 .0) (c .pre .1 .1) (c .pre .1 .2)
+    at-facts (c .args .g .states) (c .args .g .inputs) (c .args .g .outputs) (c .args .s) (c .args .x) (c .args .y) (v .states-fit) (v .inputs-fit)
+    (v .outputs-fit) (c .pre .1 .0) (c .pre .1 .1) (c .pre .1 .2)
 
 mul-letters : tie.Need-mul-letters
 mul-letters c = let f = facts (c .before .before) in record { fits = omega arith }

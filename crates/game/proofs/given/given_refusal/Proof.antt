@@ -35,7 +35,8 @@ given-refusal-spec =
     (λ c κs. search needs)
     (λ c.
     let z = c .before .before .before .before .before .before in
-    alphabet-refused (z .args .i) (z .args .o) (z .args .start) (G z) (now (z .args .system)) (now (z .args .environment)) (sym (c .before .bad-alphabet .ensures) ∙ c .if1 .taken))
+    alphabet-refused (z .args .i) (z .args .o) (z .args .start) (G z) (now (z .args .system)) (now (z .args .environment))
+    (sym (c .before .bad-alphabet .ensures) ∙ c .if1 .taken))
     (λ c κs. search needs)
     (λ c.
     let z = c .before .before .before .before .before .before .before .before in
@@ -50,4 +51,5 @@ given-refusal-spec =
     let z = start-of k in
     let a = z .args in
     refused-later (a .i) (a .o) (a .start) (G z) (now (a .system)) (now (a .environment)) (alphabet-good k) (count-good k) (c .later-refusal .result)
-    (subst (λ (z : Sizes). c .later-refusal .result ≡ laterRefusal (a .start) (arenaAt z (now (a .transitions)) (now (a .accepting)) (a .mask)) (now (a .system)) (now (a .environment))) (c .before .sizes-of .ensures) (c .later-refusal .ensures))))
+    (subst (λ (z : Sizes). c .later-refusal .result ≡ laterRefusal (a .start) (arenaAt z (now (a .transitions)) (now (a .accepting)) (a .mask))
+    (now (a .system)) (now (a .environment))) (c .before .sizes-of .ensures) (c .later-refusal .ensures))))

@@ -44,7 +44,8 @@ later-refusal-spec =
     (λ c.
     let z = c .before .before .before .before .before .before .before .before .before in
     state-refused (z .args .start) (G z) (now (z .args .system)) (now (z .args .environment))
-    (sym (c .before .before .before .before .short-read .ensures) ∙ c .before .before .before .if1 .left) (sym (c .before .before .short-tables .ensures) ∙ c .before .if2 .left) (c .if3 .taken))
+    (sym (c .before .before .before .before .short-read .ensures) ∙ c .before .before .before .if1 .left)
+    (sym (c .before .before .short-tables .ensures) ∙ c .before .if2 .left) (c .if3 .taken))
     (λ c. let p = start-of (c .before) .pre in omega (arith, mul-le-mul (p .inputs-fit) (p .outputs-fit)))
     (λ c. let p = start-of (c .before) .pre in omega (arith, mul-le-mul (p .states-fit) (mul-le-mul (p .inputs-fit) (p .outputs-fit))))
     (λ c.

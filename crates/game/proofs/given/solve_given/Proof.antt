@@ -43,15 +43,20 @@ start-of c = c .before .before .before .before .before .before .before .before .
 nothing : (c : tie.After-enum-told) → first (start-of c) ≡ Nothing
 nothing c = sym (c .before .before .given-refusal .ensures) ∙ c .enum-told .given .1
 
-accepts : (c : tie.After-enum-told) → Accepted (start-of c .args .i) (start-of c .args .o) (start-of c .args .start) (G (start-of c)) (now (start-of c .args .system)) (now (start-of c .args .environment))
-accepts c = let a = start-of c .args in accepted (a .i) (a .o) (a .start) (a .n) (now (a .transitions)) (now (a .accepting)) (a .mask) (now (a .system)) (now (a .environment)) (nothing c)
+accepts : (c : tie.After-enum-told)
+    → Accepted (start-of c .args .i) (start-of c .args .o) (start-of c .args .start) (G (start-of c)) (now (start-of c .args .system))
+    (now (start-of c .args .environment))
+accepts c =
+    let a = start-of c .args in accepted (a .i) (a .o) (a .start) (a .n) (now (a .transitions)) (now (a .accepting)) (a .mask) (now (a .system))
+    (now (a .environment)) (nothing c)
 
 -- and where the game is decided
 abbrev told-of : tie.After-decide → tie.After-enum-told
 told-of d = d .before .before .before .before
 
 decided : (d : tie.After-decide) (can : Bool) → d .decide .result ≡ can
-    → Promise (start-of (told-of d)) (first (start-of (told-of d))) (d .decide .last .1 .1 .1 .1 .0) (d .decide .last .1 .1 .1 .1 .1 .0) (verdictOf can (start-of (told-of d) .args .n))
+    → Promise (start-of (told-of d)) (first (start-of (told-of d))) (d .decide .last .1 .1 .1 .1 .0) (d .decide .last .1 .1 .1 .1 .1 .0)
+    (verdictOf can (start-of (told-of d) .args .n))
 decided d can e =
     let z = start-of (told-of d) in
     let a = z .args in
@@ -78,13 +83,16 @@ solve-given-spec =
     let z = c .before .before .before .before .before .before .before .before in
     let r = c .before .given-refusal in
     subst (λ (f : Refusal). Promise z f (now (z .args .system)) (now (z .args .environment)) (Refused (r .result))) (r .ensures)
-    (solved-refused (r .result) (z .args .mode) (z .args .start) (G z) (now (z .args .system)) (now (z .args .environment)) (is-refused (r .result) (c .match .keys2))))
+    (solved-refused (r .result) (z .args .mode) (z .args .start) (G z) (now (z .args .system)) (now (z .args .environment))
+    (is-refused (r .result) (c .match .keys2))))
     (λ c κs. accepts c .alphabet)
     (λ c κs.
     let k = c .before .before .before in
     let a = start-of k .args in
     let w = accepts k in
-    subst (λ (g : Game). Valid (arenaOf g (now (a .transitions)) (now (a .accepting))) × ((a .start < g .states) × ((0 < g .inputs) × (stateLimit * g .inputs ≤ length (now (a .system))) × (stateLimit ≤ length (now (a .environment)))))) (sym (c .before .before .game-of .ensures))
+    subst (λ (g : Game). Valid (arenaOf g (now (a .transitions)) (now (a .accepting)))
+    × ((a .start < g .states) × ((0 < g .inputs) × (stateLimit * g .inputs ≤ length (now (a .system))) × (stateLimit ≤ length (now (a .environment))))))
+    (sym (c .before .before .game-of .ensures))
     (w .valid, (w .start-fits, (w .inputs-some, w .system-long, w .environment-long))))
     (λ c. search needs)
     (λ c. search needs)

@@ -67,7 +67,8 @@ returns-4 c =
     let e = c .before .before in
     let z = begin₃ e in
     let a = z .args in
-    by-buffer (a .i) (a .o) (now (a .rule)) (now (a .condition)) (old z) 0 (fits (e .before .before .before .before)) (rule-fits e) (condition-fits e) (sym (c .before .short-buffers .ensures) ∙ c .if4 .taken)
+    by-buffer (a .i) (a .o) (now (a .rule)) (now (a .condition)) (old z) 0 (fits (e .before .before .before .before)) (rule-fits e) (condition-fits e)
+    (sym (c .before .short-buffers .ensures) ∙ c .if4 .taken)
 
 check-texts-requires : tie.Need-check-texts-requires
 check-texts-requires c κs = let e = c .before .before in (fits (e .before .before .before .before), rule-fits e, condition-fits e)

@@ -21,7 +21,8 @@ abbrev begin : tie.After-enum-told → tie.Start
 begin c = c .before .before .before .before .before
 
 -- the rule's reading is good
-good : (c : tie.After-enum-told) → ReadingOf (begin c .args .i) (ruleKind (begin c .args .i) (begin c .args .o)) (now (begin c .args .rule)) (Good (c .enum-told .given .0 .0))
+good : (c : tie.After-enum-told)
+    → ReadingOf (begin c .args .i) (ruleKind (begin c .args .i) (begin c .args .o)) (now (begin c .args .rule)) (Good (c .enum-told .given .0 .0))
 good c =
     let a = begin c .args in
     subst (λ (r : Reading). ReadingOf (a .i) (ruleKind (a .i) (a .o)) (now (a .rule)) r) (c .enum-told .given .1) (c .before .before .check .ensures)
@@ -46,7 +47,8 @@ returns c old short =
     let z = c .before .before .before .before .before in
     let a = z .args in
     let r = c .before .before .check in
-    by-rule (a .i) (a .o) (now (a .rule)) (now (a .condition)) old 0 (z .pre .0) (z .pre .1) (z .pre .2) short (r .result) (r .ensures) (not-good (r .result) (c .before .match .keys2)) (c .text-refusal .result) (c .text-refusal .ensures)
+    by-rule (a .i) (a .o) (now (a .rule)) (now (a .condition)) old 0 (z .pre .0) (z .pre .1) (z .pre .2) short (r .result) (r .ensures)
+    (not-good (r .result) (c .before .match .keys2)) (c .text-refusal .result) (c .text-refusal .ensures)
 
 read-condition-requires : tie.Need-read-condition-requires
 read-condition-requires c κs = search needs
@@ -72,7 +74,8 @@ returns-3 c old short =
     let z = begin g in
     let a = z .args in
     let x = c .before .x .given in
-    by-condition (a .i) (a .o) (now (a .rule)) (now (a .condition)) old 0 (z .pre .0) (z .pre .1) (z .pre .2) short (g .enum-told .given .0 .0) (good g) (x .0 .0)
+    by-condition (a .i) (a .o) (now (a .rule)) (now (a .condition)) old 0 (z .pre .0) (z .pre .1) (z .pre .2) short (g .enum-told .given .0 .0) (good g)
+    (x .0 .0)
     (subst (λ (y : Assumption). Conditioned (a .i) (now (a .condition)) y) (x .1) (c .before .before .before .read-condition .ensures))
 
 pub check-texts-spec : {M : Type 1} → statement M

@@ -32,7 +32,8 @@ inputs-are c =
     power-is (z .args .i) (c .power2 .result) (omega arith) (c .power2 .ensures)
 
 add-power : tie.Need-add-power
-add-power c = let z = c .before .before .before .before in omega (arith, inputs-fit (z .args .i) (z .args .o) (z .pre), outputs-fit (z .args .i) (z .args .o) (z .pre))
+add-power c =
+    let z = c .before .before .before .before in omega (arith, inputs-fit (z .args .i) (z .args .o) (z .pre), outputs-fit (z .args .i) (z .args .o) (z .pre))
 
 power-requires : tie.Need-power-requires
 power-requires c κs = search needs
@@ -41,7 +42,8 @@ mul-if1 : tie.Need-mul-if1
 mul-if1 c = let f = letters-of c in record { fits = omega arith }
 
 returns : tie.Need-returns
-returns c = let z = begin (c .before) in transitions-short (z .args .i) (z .args .o) (old z) (c .before .power .result) (letters-of (c .before) .is) (c .if1 .taken)
+returns c =
+    let z = begin (c .before) in transitions-short (z .args .i) (z .args .o) (old z) (c .before .power .result) (letters-of (c .before) .is) (c .if1 .taken)
 
 returns-2 : tie.Need-returns-2
 returns-2 c =
@@ -64,14 +66,16 @@ returns-3 c =
     let q = c .before in
     let p = first q in
     let z = begin p in
-    system-short (z .args .i) (z .args .o) (old z) (p .power .result) (letters-of p .is) (q .before .before .if1 .left) (q .before .if2 .left) (q .power2 .result) (inputs-are q) (c .if3 .taken)
+    system-short (z .args .i) (z .args .o) (old z) (p .power .result) (letters-of p .is) (q .before .before .if1 .left) (q .before .if2 .left)
+    (q .power2 .result) (inputs-are q) (c .if3 .taken)
 
 returns-4 : tie.Need-returns-4
 returns-4 c =
     let q = c .before in
     let p = first q in
     let z = begin p in
-    environment-short (z .args .i) (z .args .o) (old z) (p .power .result) (letters-of p .is) (q .before .before .if1 .left) (q .before .if2 .left) (q .power2 .result) (inputs-are q) (c .if3 .left)
+    environment-short (z .args .i) (z .args .o) (old z) (p .power .result) (letters-of p .is) (q .before .before .if1 .left) (q .before .if2 .left)
+    (q .power2 .result) (inputs-are q) (c .if3 .left)
 
 pub short-buffers-spec : {M : Type 1} → statement M
 short-buffers-spec =

@@ -38,10 +38,13 @@ start-of c = c .before .before .before .before .before .before .before .before .
 abbrev mask-of : tie.After-enum-told → ℕ
 mask-of c = c .before .before .check-rule .result .mask
 
-checked : (c : tie.After-enum-told) → RuleChecked (start-of c .args .i) (start-of c .args .o) (now (start-of c .args .rule)) (now (start-of c .args .condition)) (old (start-of c)) Nothing (mask-of c)
+checked : (c : tie.After-enum-told)
+    → RuleChecked (start-of c .args .i) (start-of c .args .o) (now (start-of c .args .rule)) (now (start-of c .args .condition)) (old (start-of c)) Nothing
+    (mask-of c)
 checked c =
     let a = start-of c .args in
-    subst (λ (x : Refusal). RuleChecked (a .i) (a .o) (now (a .rule)) (now (a .condition)) (old (start-of c)) x (mask-of c)) (c .enum-told .given .1) (c .before .before .check-rule .ensures)
+    subst (λ (x : Refusal). RuleChecked (a .i) (a .o) (now (a .rule)) (now (a .condition)) (old (start-of c)) x (mask-of c)) (c .enum-told .given .1)
+    (c .before .before .check-rule .ensures)
 
 -- where the automaton is built
 abbrev made-of : tie.After-known-told2 → tie.After-construct
@@ -59,18 +62,24 @@ new-transitions c = made-of c .construct .last .1 .1 .1 .0
 abbrev new-accepting : tie.After-known-told2 → List ℕ
 new-accepting c = made-of c .construct .last .1 .1 .1 .1 .0
 
-made : (c : tie.After-known-told2) → Constructed (start-of (told-of c) .args .i) (start-of (told-of c) .args .o) (now (start-of (told-of c) .args .rule)) (now (start-of (told-of c) .args .transitions)) (now (start-of (told-of c) .args .accepting)) (new-transitions c) (new-accepting c) (Built (states c))
+made : (c : tie.After-known-told2)
+    → Constructed (start-of (told-of c) .args .i) (start-of (told-of c) .args .o) (now (start-of (told-of c) .args .rule))
+    (now (start-of (told-of c) .args .transitions)) (now (start-of (told-of c) .args .accepting)) (new-transitions c) (new-accepting c) (Built (states c))
 made c =
     let a = start-of (told-of c) .args in
-    subst (λ (r : Construction). Constructed (a .i) (a .o) (now (a .rule)) (now (a .transitions)) (now (a .accepting)) (new-transitions c) (new-accepting c) r) (c .before .built2 .given .1) (made-of c .construct .ensures)
+    subst (λ (r : Construction). Constructed (a .i) (a .o) (now (a .rule)) (now (a .transitions)) (now (a .accepting)) (new-transitions c) (new-accepting c) r)
+    (c .before .built2 .given .1) (made-of c .construct .ensures)
 
 -- where the game is decided
 abbrev built-of : tie.After-decide → tie.After-known-told2
 built-of d = d .before .before .before .before .before .before
 
 decided : (d : tie.After-decide) (can : Bool) → d .decide .result ≡ can
-    → RuleSolved (start-of (told-of (built-of d)) .args .mode) (start-of (told-of (built-of d)) .args .i) (start-of (told-of (built-of d)) .args .o) (now (start-of (told-of (built-of d)) .args .rule)) (now (start-of (told-of (built-of d)) .args .condition))
-    (old (start-of (told-of (built-of d)))) (buffers (new-transitions (built-of d)) (new-accepting (built-of d)) (d .decide .last .1 .1 .1 .1 .0) (d .decide .last .1 .1 .1 .1 .1 .0)) (verdictOf can (states (built-of d)))
+    → RuleSolved (start-of (told-of (built-of d)) .args .mode) (start-of (told-of (built-of d)) .args .i) (start-of (told-of (built-of d)) .args .o)
+    (now (start-of (told-of (built-of d)) .args .rule)) (now (start-of (told-of (built-of d)) .args .condition))
+    (old (start-of (told-of (built-of d))))
+    (buffers (new-transitions (built-of d)) (new-accepting (built-of d)) (d .decide .last .1 .1 .1 .1 .0) (d .decide .last .1 .1 .1 .1 .1 .0))
+    (verdictOf can (states (built-of d)))
 decided d can e =
     let k = built-of d in
     let t = told-of k in
@@ -79,7 +88,8 @@ decided d can e =
     let τ = d .decide .last .1 .1 .1 .1 .1 .0 in
     let is = d .before .before .before .before .before .game-of .ensures in
     let G : Arena = arena (a .i) (a .o) (states k) (new-transitions k) (new-accepting k) (mask-of t) in
-    answered (a .mode) (a .i) (a .o) (now (a .rule)) (now (a .condition)) (old (start-of t)) (mask-of t) (checked t) (new-transitions k) (new-accepting k) (states k) (made k) σ τ can
+    answered (a .mode) (a .i) (a .o) (now (a .rule)) (now (a .condition)) (old (start-of t)) (mask-of t) (checked t) (new-transitions k) (new-accepting k)
+    (states k) (made k) σ τ can
     (subst (λ (m : Mode). Tables m G (now (a .system)) (now (a .environment)) σ τ) (same-mode (a .mode))
     (subst (λ (g : Game). Tables (modeOf (g .fair)) (arenaOf g (new-transitions k) (new-accepting k)) (now (a .system)) (now (a .environment)) σ τ) is
     (d .decide .ensures .0)))
@@ -100,7 +110,8 @@ solve-rule-spec =
     let z = c .before .before .before .before .before .before .before .before .before .before .before .before in
     let a = z .args in
     let r = c .before .check-rule in
-    refused-early (a .mode) (a .i) (a .o) (now (a .rule)) (now (a .condition)) (old z) (r .result .refusal) (r .result .mask) (is-refused (r .result .refusal) (c .match .keys2)) (r .ensures))
+    refused-early (a .mode) (a .i) (a .o) (now (a .rule)) (now (a .condition)) (old z) (r .result .refusal) (r .result .mask)
+    (is-refused (r .result .refusal) (c .match .keys2)) (r .ensures))
     (λ c κs. search needs)
     (λ c. search needs)
     (λ c. search needs)
@@ -109,11 +120,16 @@ solve-rule-spec =
     let k = c .before .before .before .before .before in
     let t = told-of k in
     let a = start-of t .args in
-    let w = tables-fit (a .mode) (a .i) (a .o) (now (a .rule)) (now (a .condition)) (old (start-of t)) (mask-of t) (checked t) (new-transitions k) (new-accepting k) in
-    subst (λ (g : Game). Valid (arenaOf g (new-transitions k) (new-accepting k)) × ((0 < g .states) × ((0 < g .inputs) × (stateLimit * g .inputs ≤ length (now (a .system))) × (stateLimit ≤ length (now (a .environment)))))) (sym (c .before .before .before .before .game-of .ensures)) (
-      valid (a .mode) (a .i) (a .o) (now (a .rule)) (now (a .condition)) (old (start-of t)) (mask-of t) (checked t) (new-transitions k) (new-accepting k) (states k) (made k),
+    let w = tables-fit (a .mode) (a .i) (a .o) (now (a .rule)) (now (a .condition)) (old (start-of t)) (mask-of t) (checked t) (new-transitions k)
+    (new-accepting k) in
+    subst (λ (g : Game). Valid (arenaOf g (new-transitions k) (new-accepting k))
+    × ((0 < g .states) × ((0 < g .inputs) × (stateLimit * g .inputs ≤ length (now (a .system))) × (stateLimit ≤ length (now (a .environment))))))
+    (sym (c .before .before .before .before .game-of .ensures)) (
+      valid (a .mode) (a .i) (a .o) (now (a .rule)) (now (a .condition)) (old (start-of t)) (mask-of t) (checked t) (new-transitions k) (new-accepting k)
+          (states k) (made k),
       (
-        starts (a .mode) (a .i) (a .o) (now (a .rule)) (now (a .condition)) (old (start-of t)) (mask-of t) (checked t) (new-transitions k) (new-accepting k) (states k) (made k),
+        starts (a .mode) (a .i) (a .o) (now (a .rule)) (now (a .condition)) (old (start-of t)) (mask-of t) (checked t) (new-transitions k) (new-accepting k)
+            (states k) (made k),
         (w .0, w .1, w .2),
       ),
     ))
@@ -131,8 +147,10 @@ solve-rule-spec =
     let t = m .before .before .before in
     let a = start-of t .args in
     let x = c .before .built .given in
-    refused-late (a .mode) (a .i) (a .o) (now (a .rule)) (now (a .condition)) (old (start-of t)) (mask-of t) (checked t) (m .construct .last .1 .1 .1 .0) (m .construct .last .1 .1 .1 .1 .0) (x .0 .0)
-    (subst (λ (r : Construction). Constructed (a .i) (a .o) (now (a .rule)) (now (a .transitions)) (now (a .accepting)) (m .construct .last .1 .1 .1 .0) (m .construct .last .1 .1 .1 .1 .0) r) (x .1) (m .construct .ensures)))
+    refused-late (a .mode) (a .i) (a .o) (now (a .rule)) (now (a .condition)) (old (start-of t)) (mask-of t) (checked t) (m .construct .last .1 .1 .1 .0)
+    (m .construct .last .1 .1 .1 .1 .0) (x .0 .0)
+    (subst (λ (r : Construction). Constructed (a .i) (a .o) (now (a .rule)) (now (a .transitions)) (now (a .accepting)) (m .construct .last .1 .1 .1 .0)
+    (m .construct .last .1 .1 .1 .1 .0) r) (x .1) (m .construct .ensures)))
     (λ c. search needs)
     (λ c. search needs)
     (λ c. search needs)

@@ -30,7 +30,8 @@ G z = arenaOf (z .args .g) (now (z .args .transitions)) (now (z .args .accepting
 -- a pass that gives a rank leaves more states with one, and they are at most n
 more : (c : tie.Then1 Inv-loop μ-loop)
     → let n = c .before .before .before .before .before .before .before .args .g .states in
-    (rankedCount (c .before .before .before .before .loop .inner) n < rankedCount (c .before .pass .last .1 .1 .1 .1 .0) n) × (rankedCount (c .before .pass .last .1 .1 .1 .1 .0) n ≤ n)
+    (rankedCount (c .before .before .before .before .loop .inner) n < rankedCount (c .before .pass .last .1 .1 .1 .1 .0) n)
+    × (rankedCount (c .before .pass .last .1 .1 .1 .1 .0) n ≤ n)
 more c =
     let n = c .before .before .before .before .before .before .before .args .g .states in
     let new = c .before .pass .last .1 .1 .1 .1 .0 in

@@ -31,7 +31,8 @@ G z = arenaOf (z .args .g) (now (z .args .transitions)) (now (z .args .accepting
 -- a round that gives a rank leaves more states with one, and they are at most n
 more : (c : tie.Then1 Inv-loop μ-loop)
     → let n = c .before .before .before .before .before .before .before .before .before .before .args .g .states in
-    (rankedCount (c .before .before .before .before .loop .outer) n < rankedCount (c .before .promote .last .0) n) × (rankedCount (c .before .promote .last .0) n ≤ n)
+    (rankedCount (c .before .before .before .before .loop .outer) n < rankedCount (c .before .promote .last .0) n)
+    × (rankedCount (c .before .promote .last .0) n ≤ n)
 more c =
     let z = c .before .before .before .before .before .before .before .before .before .before in
     let l = c .before .before .before .before .loop in
@@ -61,7 +62,12 @@ rounds-spec =
     (λ c κs. c .before .before .before .before .pre)
     (λ c. (no-rounds (replicate stateLimit 0) (zeros stateLimit), c .inner-ranks .ensures, search needs, refl))
     (λ c κs. (c .before .before .before .before .before .before .before .before .pre .moving .states-fit, c .before .before .loop .inv .3))
-    (λ c. omega (arith, more c, c .before .before .before .before .before .before .before .before .before .before .pre .moving .states-fit, c .before .before .before .before .loop .inv .2))
+    (λ c. omega (
+      arith,
+      more c,
+      c .before .before .before .before .before .before .before .before .before .before .pre .moving .states-fit,
+      c .before .before .before .before .loop .inv .2,
+    ))
     (λ c κs. c .before .before .before .before .before .before .before .before .before .before .before .before .pre)
     (λ c. omega (arith, more (c .before .before .before), c .before .before .before .before .before .before .before .loop .inv .2))
     (λ c.

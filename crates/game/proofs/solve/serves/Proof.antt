@@ -46,7 +46,8 @@ serves-spec =
     (λ c.
     let e = c .before .before .before .before .before in
     let z = e .before .before .before in
-    moved e _ (at-lost (G z) (won z) (lost z) (z .args .x) (e .enters .result) (c .before .before .before .if1 .left) (sym (c .before .before .ranked-below .ensures) ∙ c .if2 .taken)))
+    moved e _ (at-lost (G z) (won z) (lost z) (z .args .x) (e .enters .result) (c .before .before .before .if1 .left)
+    (sym (c .before .before .ranked-below .ensures) ∙ c .if2 .taken)))
     (λ c.
     let e = c .before .before .before .before .before .before in
     let z = e .before .before .before in
@@ -56,5 +57,7 @@ serves-spec =
     (λ c.
     let e = c .before .before .before .before .before .before .before in
     let z = e .before .before .before in
-    ap not (c .has-condition .ensures) ∙ moved e _ (at-else (G z) (won z) (lost z) (z .args .x) (e .enters .result) (c .before .before .before .before .before .if1 .left)
-    (sym (c .before .before .before .before .ranked-below .ensures) ∙ c .before .before .if2 .left) (sym (c .before .before .before .ranked-below2 .ensures) ∙ c .before .if3 .left))))
+    ap not (c .has-condition .ensures)
+    ∙ moved e _ (at-else (G z) (won z) (lost z) (z .args .x) (e .enters .result) (c .before .before .before .before .before .if1 .left)
+    (sym (c .before .before .before .before .ranked-below .ensures) ∙ c .before .before .if2 .left)
+    (sym (c .before .before .before .ranked-below2 .ensures) ∙ c .before .if3 .left))))

@@ -51,7 +51,8 @@ next : (c : tie.After-wrapped Inv-loop μ-loop Inv-inputs μ-inputs)
     → let a = c .before .before .before .before .before .before .before .before .before .args in
     let x = c .before .before .before .before .before .before .inputs .x in
     (c .wrapped .result < a .g .outputs)
-    × Tried (served (a .g) (now (a .transitions)) (now (a .accepting)) (now (a .won)) (now (a .lost)) (a .limits) (a .s) x) (a .g .outputs) (c .before .before .loop .tried) (c .wrapped .result)
+    × Tried (served (a .g) (now (a .transitions)) (now (a .accepting)) (now (a .won)) (now (a .lost)) (a .limits) (a .s) x) (a .g .outputs)
+    (c .before .before .loop .tried) (c .wrapped .result)
 next c =
     let l = c .before .before .loop in
     let d = l .inv .within in
@@ -75,20 +76,24 @@ unserved-spec =
     (λ c κs.
     let z = c .before .before .before .before .before .before .before .before .before in
     (z .pre .0, (z .pre .1, omega arith, next c .0)))
-    (λ c. let l = next (c .before .before) .1 .within in omega (arith, c .before .before .before .before .before .before .before .before .before .before .before .pre .0 .moving .outputs-fit))
-    (λ c. let l = next (c .before .before) .0 in omega (arith, c .before .before .before .before .before .before .before .before .before .before .before .pre .0 .moving .outputs-fit))
+    (λ c. let l = next (c .before .before) .1 .within in
+    omega (arith, c .before .before .before .before .before .before .before .before .before .before .before .pre .0 .moving .outputs-fit))
+    (λ c. let l = next (c .before .before) .0 in
+    omega (arith, c .before .before .before .before .before .before .before .before .before .before .before .pre .0 .moving .outputs-fit))
     (λ c. let l = next (c .before .before) .1 .within in omega arith)
     (λ c.
     let n = next (c .before .before) in
     let l = n .1 .within in
     tried-more (n .1) (n .0) (omega arith) (sym (c .before .serves .ensures) ∙ c .if1 .left))
-    (λ c. let l = next (c .before .before) .0 in omega (arith, c .before .before .before .before .before .before .before .before .before .before .before .pre .0 .moving .outputs-fit))
+    (λ c. let l = next (c .before .before) .0 in
+    omega (arith, c .before .before .before .before .before .before .before .before .before .before .before .pre .0 .moving .outputs-fit))
     (λ c. index (c .before .before .before .before .before .before .before))
     (λ c. omega (arith, c .before .before .before .before .before .before .before .before .before .before .before .pre .0 .moving .inputs-fit))
     (λ c. omega arith)
     (λ c. (
       omega arith,
-      below-more _ _ (c .before .before .before .before .before .before .before .before .inputs .inv .1) (_, next (c .before .before) .0, sym (c .before .serves .ensures) ∙ c .if1 .taken),
+      below-more _ _ (c .before .before .before .before .before .before .before .before .inputs .inv .1)
+          (_, next (c .before .before) .0, sym (c .before .serves .ensures) ∙ c .if1 .taken),
     ))
     (λ c.
     let i = c .before .inputs .inv in

@@ -43,7 +43,8 @@ fill-environment-spec =
     let l = c .before .before .loop in
     let b = c .environment-byte in
     let fits : l .s < length (l .environment) = omega (arith, z .pre .1 .1) in
-    let P : ℕ → ℕ → Type 0 = λ k v. EnvironmentByte (z .args .g .fair) (arenaOf (z .args .g) (now (z .args .transitions)) (now (z .args .accepting))) (now (z .args .ranks)) k v in (
+    let P : ℕ → ℕ → Type 0 = λ k v. EnvironmentByte (z .args .g .fair) (arenaOf (z .args .g) (now (z .args .transitions)) (now (z .args .accepting)))
+    (now (z .args .ranks)) k v in (
       omega arith,
       fill-below P (now (z .args .environment)) (l .environment) (l .s) (b .result) fits (l .inv .1) (b .ensures),
       fill-rest P (now (z .args .environment)) (l .environment) (l .s) (b .result) fits (l .inv .2),

@@ -47,7 +47,8 @@ fill-system-spec =
     let l = c .before .before .loop in
     let b = c .system-byte in
     let fits : l .k < length (l .system) = omega (arith, z .pre .1 .1) in
-    let P : ℕ → ℕ → Type 0 = λ k v. SystemByte (z .args .g .fair) (arenaOf (z .args .g) (now (z .args .transitions)) (now (z .args .accepting))) (now (z .args .ranks)) (k / z .args .g .inputs) (k % z .args .g .inputs) v in (
+    let P : ℕ → ℕ → Type 0 = λ k v. SystemByte (z .args .g .fair) (arenaOf (z .args .g) (now (z .args .transitions)) (now (z .args .accepting)))
+    (now (z .args .ranks)) (k / z .args .g .inputs) (k % z .args .g .inputs) v in (
       omega arith,
       fill-below P (now (z .args .system)) (l .system) (l .k) (b .result) fits (l .inv .1) (b .ensures),
       fill-rest P (now (z .args .system)) (l .system) (l .k) (b .result) fits (l .inv .2),

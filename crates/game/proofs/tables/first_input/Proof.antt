@@ -65,7 +65,8 @@ first-input-spec =
       below-more _ _ (l .inv .1)
           (λ h. c .before .is-safe .ensures .unsafe (c .if1 .left)
           (allowed-every (z .args .g .fair) (G z) (z .pre .0 .moving .states-fit) (now (z .args .ranks)) (z .pre .1 .0) (z .args .s) (l .x) (has-rank z)
-          (not (b .result)) (ap not (b .ensures)) (m .result) (m .ensures ∙ ap (λ (n : ℕ). limitOf (not (z .args .g .fair)) (not (b .result)) n) (z .pre .1 .1 .2)) h)),
+          (not (b .result)) (ap not (b .ensures)) (m .result)
+          (m .ensures ∙ ap (λ (n : ℕ). limitOf (not (z .args .g .fair)) (not (b .result)) n) (z .pre .1 .1 .2)) h)),
     ))
     (λ c.
     let z = c .before .before .before .before .before in

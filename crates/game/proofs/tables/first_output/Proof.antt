@@ -38,22 +38,31 @@ first-output-spec =
     (λ c.
     let at = c .before .before in
     let z = at .before .before .before .before .before in
-    let e = at .enters in
-    (at .before .loop-test .taken, _⊎_.inl (goal-in (G z) (z .args .s) (z .args .x) (at .before .before .loop .y) (e .result) (e .ensures .is _) (c .if1 .taken))))
+    let e = at .enters in (
+      at .before .loop-test .taken,
+      _⊎_.inl (goal-in (G z) (z .args .s) (z .args .x) (at .before .before .loop .y) (e .result) (e .ensures .is _) (c .if1 .taken)),
+    ))
     (λ c κs. omega (arith, c .before .before .enters .ensures .below, c .before .before .before .before .before .before .before .pre .0 .moving .states-fit))
     (λ c.
     let at = c .before .before .before .before in
     let z = at .before .before .before .before .before in
-    let e = at .enters in
-    (at .before .loop-test .taken, _⊎_.inr (below-in (G z) (z .args .s) (z .args .x) (at .before .before .loop .y) (e .result) (e .ensures .is _) (now (z .args .ranks)) (z .args .most) (c .before .is-below .ensures .inside (c .if2 .taken)))))
+    let e = at .enters in (
+      at .before .loop-test .taken,
+      _⊎_.inr (below-in (G z) (z .args .s) (z .args .x) (at .before .before .loop .y) (e .result) (e .ensures .is _) (now (z .args .ranks)) (z .args .most)
+          (c .before .is-below .ensures .inside (c .if2 .taken))),
+    ))
     (λ c. omega (arith, c .before .before .before .before .before .before .before .before .before .pre .0 .moving .outputs-fit))
     (λ c. omega arith)
     (λ c.
     let at = c .before .before .before .before in
     let z = at .before .before .before .before .before in
     let l = at .before .before .loop in
-    let e = at .enters in
-    (omega arith, below-more _ _ (l .inv .1) (bad-output (G z) (z .args .s) (z .args .x) (l .y) (e .result) (e .ensures .is _) (now (z .args .ranks)) (z .args .most) (c .before .before .if1 .left) (c .before .is-below .ensures .outside (c .if2 .left)))))
+    let e = at .enters in (
+      omega arith,
+      below-more _ _ (l .inv .1)
+          (bad-output (G z) (z .args .s) (z .args .x) (l .y) (e .result) (e .ensures .is _) (now (z .args .ranks)) (z .args .most)
+          (c .before .before .if1 .left) (c .before .is-below .ensures .outside (c .if2 .left))),
+    ))
     (λ c.
     let w = c .before .before .before .before .pre .1 .1 in
     absurd (c .before .loop .inv .1 (w .0) (omega (arith, w .1)) (w .2))))

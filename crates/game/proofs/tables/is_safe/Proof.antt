@@ -19,7 +19,8 @@ use Rattle.game.proofs.tables.is_safe.Tie as tie
 abbrev Inv-loop : tie.InvT-loop
 Inv-loop g transitions accepting ranks most s x outputs y₀ y =
     (y ≤ g .outputs)
-    × ((k : ℕ) → k < y → Safe (arenaOf g transitions accepting) false (next (arenaOf g transitions accepting) s x k) (Below ranks most (next (arenaOf g transitions accepting) s x k)))
+    × ((k : ℕ) → k < y → Safe (arenaOf g transitions accepting) false (next (arenaOf g transitions accepting) s x k)
+    (Below ranks most (next (arenaOf g transitions accepting) s x k)))
 
 abbrev μ-loop : tie.MeasureT-loop
 μ-loop g transitions accepting ranks most s x outputs y₀ y = g .outputs - y
@@ -45,7 +46,8 @@ is-safe-spec =
     let e = at .enters in
     record {
       safe = λ h. absurd (false≢true h);
-      unsafe = λ h every. clash _ (goal-in (G z) (z .args .s) (z .args .x) y (e .result) (e .ensures .is _) (c .if1 .taken)) (every y (at .before .loop-test .taken) .0);
+      unsafe = λ h every. clash _ (goal-in (G z) (z .args .s) (z .args .x) y (e .result) (e .ensures .is _) (c .if1 .taken))
+          (every y (at .before .loop-test .taken) .0);
     })
     (λ c κs. omega (arith, c .before .before .enters .ensures .below, c .before .before .before .before .before .before .before .pre .0 .moving .states-fit))
     (λ c.
@@ -57,7 +59,8 @@ is-safe-spec =
     record {
       safe = λ h. absurd (false≢true h);
       unsafe = λ h every. b .ensures .outside (not-true (b .result) (c .if2 .taken))
-          (below-out (G z) (z .args .s) (z .args .x) y (e .result) (e .ensures .is _) (now (z .args .ranks)) (z .args .most) (every y (at .before .loop-test .taken) .1));
+          (below-out (G z) (z .args .s) (z .args .x) y (e .result) (e .ensures .is _) (now (z .args .ranks)) (z .args .most)
+          (every y (at .before .loop-test .taken) .1));
     })
     (λ c. omega (arith, c .before .before .before .before .before .before .before .before .before .pre .0 .moving .outputs-fit))
     (λ c. omega arith)
@@ -70,7 +73,8 @@ is-safe-spec =
       omega arith,
       below-more _ _ (l .inv .1) (
         goal-out (G z) (z .args .s) (z .args .x) (l .y) (e .result) (e .ensures .is _) (c .before .before .if1 .left),
-        below-in (G z) (z .args .s) (z .args .x) (l .y) (e .result) (e .ensures .is _) (now (z .args .ranks)) (z .args .most) (b .ensures .inside (not-false (b .result) (c .if2 .left))),
+        below-in (G z) (z .args .s) (z .args .x) (l .y) (e .result) (e .ensures .is _) (now (z .args .ranks)) (z .args .most)
+            (b .ensures .inside (not-false (b .result) (c .if2 .left))),
       ),
     ))
     (λ c. let l = c .before .loop in record { safe = λ h y m. l .inv .1 y (omega arith); unsafe = λ h. absurd (true≢false h) }))

@@ -33,7 +33,8 @@ count-good : (c : tie.Else2) → badCount (start-of c .args .n) ≡ false
 count-good c = sym (c .before .bad-count .ensures) ∙ c .if2 .left
 
 -- an answer that is the right one is promised with its number and place
-answers : (z : tie.Start) (r : Followed) → r ≡ followed (z .args .i) (z .args .o) (G z) (now (z .args .system)) (z .args .self) (z .args .x) → FollowedBy (z .args .i) (z .args .o) (G z) (now (z .args .system)) (z .args .self) (z .args .x) r
+answers : (z : tie.Start) (r : Followed) → r ≡ followed (z .args .i) (z .args .o) (G z) (now (z .args .system)) (z .args .self) (z .args .x)
+    → FollowedBy (z .args .i) (z .args .o) (G z) (now (z .args .system)) (z .args .self) (z .args .x) r
 answers z r e = followed-by (z .args .i) (z .args .o) (G z) (now (z .args .system)) (z .args .self) (z .args .x) r e
 
 pub follow-spec : {M : Type 1} → statement M
@@ -43,7 +44,8 @@ follow-spec =
     (λ c κs. search needs)
     (λ c.
     let z = c .before .before .before .before .before in
-    answers z (Refused Alphabet) (alphabet-refused (z .args .i) (z .args .o) (G z) (now (z .args .system)) (z .args .self) (z .args .x) (sym (c .before .bad-alphabet .ensures) ∙ c .if1 .taken)))
+    answers z (Refused Alphabet) (alphabet-refused (z .args .i) (z .args .o) (G z) (now (z .args .system)) (z .args .self) (z .args .x)
+    (sym (c .before .bad-alphabet .ensures) ∙ c .if1 .taken)))
     (λ c κs. search needs)
     (λ c.
     let z = c .before .before .before .before .before .before .before in
@@ -60,4 +62,5 @@ follow-spec =
     let a = z .args in
     answers z (c .step .result)
     (followed-later (a .i) (a .o) (G z) (now (a .system)) (a .self) (a .x) (alphabet-good k) (count-good k) (c .step .result)
-    (subst (λ (z : Sizes). c .step .result ≡ laterFollowed (arenaAt z (now (a .transitions)) (now (a .accepting)) 0) (now (a .system)) (a .self) (a .x)) (c .before .sizes-of .ensures) (c .step .ensures)))))
+    (subst (λ (z : Sizes). c .step .result ≡ laterFollowed (arenaAt z (now (a .transitions)) (now (a .accepting)) 0) (now (a .system)) (a .self) (a .x))
+    (c .before .sizes-of .ensures) (c .step .ensures)))))

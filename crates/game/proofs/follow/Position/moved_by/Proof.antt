@@ -19,12 +19,14 @@ G z = arenaAt (z .args .sizes) (now (z .args .transitions)) (now (z .args .accep
 abbrev start-of : tie.After-wide → tie.Start
 start-of c = c .before .before .before
 
-facts : (c : tie.After-wide) → At (start-of c .args .sizes .states) (start-of c .args .sizes .inputs) (start-of c .args .sizes .outputs) (start-of c .args .self .state) (start-of c .args .x) (c .wide .result)
+facts : (c : tie.After-wide) → At (start-of c .args .sizes .states) (start-of c .args .sizes .inputs) (start-of c .args .sizes .outputs)
+    (start-of c .args .self .state) (start-of c .args .x) (c .wide .result)
 facts c =
     let z = start-of c in
     let p = z .pre .1 .1 in
     at-facts (z .args .sizes .states) (z .args .sizes .inputs) (z .args .sizes .outputs) (z .args .self .state) (z .args .x) (c .wide .result)
-    (z .pre .0 .states-fit) (z .pre .0 .inputs-fit) (z .pre .0 .outputs-fit) (p .0) (p .1) (subst (λ (v : ℕ). v < z .args .sizes .outputs) (sym (c .wide .ensures)) (p .2))
+    (z .pre .0 .states-fit) (z .pre .0 .inputs-fit) (z .pre .0 .outputs-fit) (p .0) (p .1)
+    (subst (λ (v : ℕ). v < z .args .sizes .outputs) (sym (c .wide .ensures)) (p .2))
 
 pub moved-by-spec : {M : Type 1} → statement M
 unfolding next
@@ -55,4 +57,5 @@ moved-by-spec =
     let t = f .before .before in
     let w = t .before .before .before in
     let a = start-of w .args in
-    move-leads-in (G (start-of w)) (a .self) (a .x) (a .b) (w .wide .result) (t .wide2 .result) (w .wide .ensures) (t .wide2 .ensures) (f .if1 .left) (c .entered .result) (c .entered .ensures)))
+    move-leads-in (G (start-of w)) (a .self) (a .x) (a .b) (w .wide .result) (t .wide2 .result) (w .wide .ensures) (t .wide2 .ensures) (f .if1 .left)
+    (c .entered .result) (c .entered .ensures)))

@@ -48,11 +48,13 @@ step-spec =
     (λ c.
     let z = c .before .before .before .before .before .before .before .before in
     state-refused (G z) (now (z .args .system)) (z .args .self) (z .args .x)
-    (sym (c .before .before .before .before .short-read .ensures) ∙ c .before .before .before .if1 .left) (sym (c .before .before .short-strategy .ensures) ∙ c .before .if2 .left) (c .if3 .taken))
+    (sym (c .before .before .before .before .short-read .ensures) ∙ c .before .before .before .if1 .left)
+    (sym (c .before .before .short-strategy .ensures) ∙ c .before .if2 .left) (c .if3 .taken))
     (λ c.
     let z = c .before .before .before .before .before .before .before .before .before in
     input-refused (G z) (now (z .args .system)) (z .args .self) (z .args .x)
-    (sym (c .before .before .before .before .before .short-read .ensures) ∙ c .before .before .before .before .if1 .left) (sym (c .before .before .before .short-strategy .ensures) ∙ c .before .before .if2 .left) (c .before .if3 .left) (c .if4 .taken))
+    (sym (c .before .before .before .before .before .short-read .ensures) ∙ c .before .before .before .before .if1 .left)
+    (sym (c .before .before .before .short-strategy .ensures) ∙ c .before .before .if2 .left) (c .before .if3 .left) (c .if4 .taken))
     (λ c.
     let z = start-of c in
     let s : z .args .self .state ≤ stateLimit = omega (arith, z .pre) in omega (arith, mul-le-mul s (z .pre .inputs-fit)))

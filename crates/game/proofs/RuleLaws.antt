@@ -12,7 +12,7 @@ use lib.ListN.{length, getD, take}
 use lib.Pow.{pow-add, pow-pos}
 use Rattle.machine.specs.Letters.{Trace}
 use Rattle.machine.specs.Machine.{Machine}
-use Rattle.machine.specs.Run as machine
+use Rattle.machine.specs.Run.{run}
 use Rattle.machine.specs.Discovery.{begin}
 use Rattle.machine.specs.Automaton as automata
 use Rattle.machine.specs.Automaton.{walk}
@@ -26,7 +26,7 @@ use Rattle.automaton.specs.Discovery.{states}
 use Rattle.automaton.specs.Automaton.{Automaton}
 use Rattle.plays.specs.declared.mode.Mode.{Mode}
 use Rattle.plays.specs.Arena.{Arena, arena, next, goal}
-use Rattle.plays.specs.Play.{Step, Legal, entered, run, reaches, letters, Along}
+use Rattle.plays.specs.Play.{Step, Legal, entered, standsOn, reaches, letters, Along}
 use Rattle.plays.specs.Strategy.{BySystem, ByEnvironment, SystemWins, EnvironmentWins}
 use Rattle.game.specs.inner.Game.{Valid}
 use Rattle.game.specs.Rule.{Satisfied, Can, Cannot}
@@ -38,8 +38,8 @@ use Rattle.game.proofs.CheckLaws.{small-power}
 
 module _ (G : Arena) where
   -- the transitions follow the letters as a play follows its steps
-  walk-run : (s : ℕ) (p : List Step) → walk (G .transitions) (G .inputs * G .outputs) s (letters G p) ≡ run G s p
-  unfolding machine.run run letters next
+  walk-run : (s : ℕ) (p : List Step) → walk (G .transitions) (G .inputs * G .outputs) s (letters G p) ≡ standsOn G s p
+  unfolding run letters next
   walk-run s [] = refl
   walk-run s (a ∷ p) = walk-run (entered G s a) p
 
@@ -60,7 +60,7 @@ some-state {M = M} automaton = let w = automaton .numbering .complete (M .first)
 -- The arena is that of the formula's automaton, and R allows only steps in range.
 module _ (φ : Formula) (G : Arena) (automaton : Automaton φ (G .inputs * G .outputs) (G .states) (G .transitions) (G .accepting))
     (R : ℕ → Step → Type 0) (legal : (s : ℕ) (a : Step) → R s a → Legal G a) where
-  run-below : (s : ℕ) (p : List Step) → s < G .states → Along G R s p → run G s p < G .states
+  run-below : (s : ℕ) (p : List Step) → s < G .states → Along G R s p → standsOn G s p < G .states
   unfolding Along run next
   run-below s [] l h = l
   run-below s (a ∷ p) l h =
@@ -81,20 +81,20 @@ module _ (φ : Formula) (G : Arena) (automaton : Automaton φ (G .inputs * G .ou
   flag-goal s e = rw e
 
   -- a play of at least one step stands on a goal exactly when its letters satisfy the formula
-  play-meaning : (a : Step) (p : List Step) → Along G R 0 (a ∷ p) → (goal G (run G 0 (a ∷ p)) ≡ true) ↔ Satisfies φ (letters G (a ∷ p))
+  play-meaning : (a : Step) (p : List Step) → Along G R 0 (a ∷ p) → (goal G (standsOn G 0 (a ∷ p)) ≡ true) ↔ Satisfies φ (letters G (a ∷ p))
   unfolding letters
   play-meaning a p h =
       let m = automaton .meaning (letterOf (G .inputs) (a .input) (a .output)) (letters G p) (steps-letters G R legal 0 (a ∷ p) h) in
-      let e : walk (G .transitions) (G .inputs * G .outputs) 0 (letters G (a ∷ p)) ≡ run G 0 (a ∷ p) = walk-run G 0 (a ∷ p) in (
-        (λ g. m .0 (ap (λ (s : ℕ). getD (G .accepting) s 0) e ∙ goal-flag (run G 0 (a ∷ p)) (run-below 0 (a ∷ p) (some-state automaton) h) g)),
-        (λ s. flag-goal (run G 0 (a ∷ p)) (ap (λ (s : ℕ). getD (G .accepting) s 0) (sym e) ∙ m .1 s)),
+      let e : walk (G .transitions) (G .inputs * G .outputs) 0 (letters G (a ∷ p)) ≡ standsOn G 0 (a ∷ p) = walk-run G 0 (a ∷ p) in (
+        (λ g. m .0 (ap (λ (s : ℕ). getD (G .accepting) s 0) e ∙ goal-flag (standsOn G 0 (a ∷ p)) (run-below 0 (a ∷ p) (some-state automaton) h) g)),
+        (λ s. flag-goal (standsOn G 0 (a ∷ p)) (ap (λ (s : ℕ). getD (G .accepting) s 0) (sym e) ∙ m .1 s)),
       )
 
-  beginning-meaning : (p : List Step) (k : ℕ) → 0 < k → k ≤ length p → Along G R 0 p → (goal G (run G 0 (take k p)) ≡ true) ↔ Satisfies φ (take k (letters G p))
+  beginning-meaning : (p : List Step) (k : ℕ) → 0 < k → k ≤ length p → Along G R 0 p → (goal G (standsOn G 0 (take k p)) ≡ true) ↔ Satisfies φ (take k (letters G p))
   beginning-meaning p zero z l h = absurd (let z : ⊥ = omega arith in z)
   beginning-meaning [] (suc k) z l h = absurd (let z : ⊥ = omega arith in z)
   beginning-meaning (a ∷ p) (suc k) z l h =
-      subst (λ (w : List ℕ). (goal G (run G 0 (a ∷ take k p)) ≡ true) ↔ Satisfies φ w) (sym (take-letters G (a ∷ p) (suc k)))
+      subst (λ (w : List ℕ). (goal G (standsOn G 0 (a ∷ take k p)) ≡ true) ↔ Satisfies φ w) (sym (take-letters G (a ∷ p) (suc k)))
       (play-meaning a (take k p) (take-along G R 0 (a ∷ p) (suc k) h))
 
   pub reached-satisfied : (p : List Step) → Along G R 0 p → reaches G 0 p ≡ true → Satisfied φ G p

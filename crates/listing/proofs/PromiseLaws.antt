@@ -64,7 +64,7 @@ over-refused false false false (Bad k) κ e = omega arith
 over-refused false false false TooManyNodes κ e = omega arith
 over-refused false false false TooManyOperators κ e = omega arith
 
-pub served-states : (i o : ℕ) (rule condition : List ℕ) (old : Buffers) (ρ κ : Reading) (n : ℕ) → numberOf (ruleRefusal i o rule condition old ρ κ n) ≡ 0 → n ≤ 128
+pub served-states : (i o : ℕ) (rule condition : List ℕ) (old : Buffers) (ρ κ : Reading) (n : ℕ) → numberOf (ruleRefusal i o rule condition old ρ κ n) ≡ 0 → n ≤ stateLimit
 unfolding ruleRefusal
 served-states i o rule condition old ρ κ n e =
     on (ltb stateLimit n)
@@ -72,7 +72,7 @@ served-states i o rule condition old ρ κ n e =
     (λ f. ltb-false stateLimit n f)
 
 -- an answer has at most 128 states
-pub solved-states : {mode : Mode} {i o : ℕ} {rule condition : List ℕ} {old new : Buffers} {r : Answer} → RuleSolved mode i o rule condition old new r → answerStates r ≤ 128
+pub solved-states : {mode : Mode} {i o : ℕ} {rule condition : List ℕ} {old new : Buffers} {r : Answer} → RuleSolved mode i o rule condition old new r → answerStates r ≤ stateLimit
 solved-states {mode} {i} {o} {rule} {condition} {old} {new} {r} m =
     on (eqb (numberOf (m .refusal)) 0)
     (λ t.
@@ -80,10 +80,10 @@ solved-states {mode} {i} {o} {rule} {condition} {old} {new} {r} m =
     let v = m .served (no-number (m .refusal) z) in
     let e : answerStates r ≡ m .states = ap answerStates (v .1) ∙ verdict-states (v .0) (m .states) in
     let h = served-states i o rule condition old (m .reading) (m .condition-reading) (m .states) (ap numberOf (sym (m .first)) ∙ z) in
-    subst (λ (k : ℕ). k ≤ 128) (sym e) h)
+    subst (λ (k : ℕ). k ≤ stateLimit) (sym e) h)
     (λ f.
     let e : answerStates r ≡ 0 = ap answerStates (m .refused (λ n. eqb-false (numberOf (m .refusal)) 0 f (ap numberOf n)) .0) in
-    subst (λ (k : ℕ). k ≤ 128) (sym e) (omega arith))
+    subst (λ (k : ℕ). k ≤ stateLimit) (sym e) (omega arith))
 
 -- the transitions are not listed
 listing-same : (i : ℕ) (t a σ τ : List ℕ) (r : Answer) → listingOf i a σ τ r ≡ listing i (buffers t a σ τ) r

@@ -9,10 +9,12 @@ use lib.ListN.{getD}
 use borrow.Author.Tests.{eq-eqb, ne-eqb}
 use Rattle.reader.specs.declared.refusal.Refusal.{Refusal}
 use Rattle.reader.specs.Refusal.{numberOf, placeOf}
+use Rattle.automaton.specs.Limits.{stateLimit}
 use Rattle.game.specs.declared.answer.Answer.{Answer}
 use Rattle.game.specs.declared.answer.Answer.the-variants.{Can, Cannot, Refused}
+use Rattle.game.specs.Tables.{noMove}
 use Rattle.listing.specs.Decimal.{decimal}
-use Rattle.listing.specs.inner.Rendering.{listingOf}
+use Rattle.listing.specs.inner.Rendering.{listingOf, rowLimit}
 use Rattle.listing.specs.Input.{newline, blank}
 use Rattle.listing.specs.Listing.{fields, goalMark, winnerFields, stateLine, stateLines, refusalLine, refusedWord, canWord, cannotWord, verdictLines}
 use Rattle.listing.specs.inner.Writing.{Writes, Remains}
@@ -64,13 +66,13 @@ pub mark-goal : (accepting : List ℕ) (s : ℕ) → (getD accepting s 0 ≡ 0 �
 mark-goal accepting s e = rw (ne-eqb (getD accepting s 0) 0 e) refl
 
 module _ (inputs : ℕ) (system environment : List ℕ) (s : ℕ) where
-  pub winner-system : getD environment s 0 ≡ 255 → winnerFields inputs system environment s ≡ (83 ∷ []) ++ fields system (s * inputs) inputs
+  pub winner-system : getD environment s 0 ≡ noMove → winnerFields inputs system environment s ≡ (83 ∷ []) ++ fields system (s * inputs) inputs
   unfolding winnerFields
-  winner-system e = rw (eq-eqb (getD environment s 0) 255 e) refl
+  winner-system e = rw (eq-eqb (getD environment s 0) noMove e) refl
 
-  pub winner-environment : (getD environment s 0 ≡ 255 → ⊥) → winnerFields inputs system environment s ≡ (79 ∷ []) ++ fields environment s 1
+  pub winner-environment : (getD environment s 0 ≡ noMove → ⊥) → winnerFields inputs system environment s ≡ (79 ∷ []) ++ fields environment s 1
   unfolding winnerFields
-  winner-environment e = rw (ne-eqb (getD environment s 0) 255 e) refl
+  winner-environment e = rw (ne-eqb (getD environment s 0) noMove e) refl
 
 -- the pieces of a line, written one after the other
 pub line-written : (inputs : ℕ) (accepting system environment : List ℕ) (s : ℕ) {out out₁ out₂ out₃ out₄ : List ℕ} {at p q t r : ℕ} → Writes out at (decimal s) out₁ p
@@ -103,8 +105,8 @@ pub states-start : (inputs : ℕ) (accepting system environment out : List ℕ) 
 states-start inputs accepting system environment out at n = let m : n - 0 ≡ n = omega arith in rw m (outset out at (stateLines inputs accepting system environment 0 n))
 
 -- a row begins within bounds
-pub row-within : (s inputs : ℕ) → s < 128 → inputs ≤ 512 → s * inputs ≤ 65536
-row-within s inputs h g = mul-le-mul {n₂ = 128} {m₂ = 512} (omega arith) g
+pub row-within : (s inputs : ℕ) → s < stateLimit → inputs ≤ rowLimit → s * inputs ≤ stateLimit * rowLimit
+row-within s inputs h g = mul-le-mul {n₂ = stateLimit} {m₂ = rowLimit} (omega arith) g
 
 -- the listing of each answer
 module _ (i : ℕ) (a σ τ : List ℕ) (x : Answer) {out out′ : List ℕ} {r : ℕ} where

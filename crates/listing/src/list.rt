@@ -11,6 +11,9 @@ use crate::input::line_end;
 use crate::input::mode_of;
 use crate::render::put_listing;
 use crate::render::put_refusal;
+use automaton::limits::LETTER_LIMIT;
+use automaton::limits::NUMBER_LIMIT;
+use automaton::limits::STATE_LIMIT;
 use game::answer::Answer;
 use game::rule::solve_rule;
 
@@ -69,10 +72,10 @@ fn list_with(
 pub fn list(input: &[u8], output: &mut [u8]) -> usize
     ensures { λ r. ⌜ Listed (now (input .entry)) (now (output .entry)) (now (output .exit)) r ⌝ }
 {
-    let mut transitions = [0u8; 32768];
-    let mut accepting = [0u8; 128];
-    let mut system = [0u8; 2048];
-    let mut environment = [0u8; 128];
+    let mut transitions = [0u8; STATE_LIMIT * LETTER_LIMIT];
+    let mut accepting = [0u8; STATE_LIMIT];
+    let mut system = [0u8; STATE_LIMIT * NUMBER_LIMIT];
+    let mut environment = [0u8; STATE_LIMIT];
     list_with(
         input,
         output,

@@ -7,6 +7,7 @@ use Rattle.game.specs.declared.answer.Answer.{Answer}
 use Rattle.game.specs.Answer.{answerStates}
 use Rattle.listing.proofs.RenderingLaws.{can-listed, cannot-listed, refused-listed}
 use borrow.Author.Needs.{needs}
+use Rattle.automaton.specs.Limits.{stateLimit}
 use Rattle.listing.proofs.render.put_listing.Statement.{statement}
 use Rattle.listing.proofs.render.put_listing.Tie as tie
 
@@ -17,7 +18,7 @@ put-listing-spec =
     (λ c. search needs)
     (λ c. search needs)
     (λ c κs. search needs)
-    (λ c κs. (subst (λ (x : Answer). answerStates x ≤ 128) (c .before .before .before .before .answer .given .1) (c .before .before .before .before .before .before .before .before .before .before .pre .1), c .input-count .ensures .1))
+    (λ c κs. (subst (λ (x : Answer). answerStates x ≤ stateLimit) (c .before .before .before .before .answer .given .1) (c .before .before .before .before .before .before .before .before .before .before .pre .1), c .input-count .ensures .1))
     (λ c. search needs)
     (λ c.
     let z = c .before .before .before .before .before .before .before .before .before .before .before .before .before .args in
@@ -25,7 +26,7 @@ put-listing-spec =
     (λ c. search needs)
     (λ c. search needs)
     (λ c κs. search needs)
-    (λ c κs. (subst (λ (x : Answer). answerStates x ≤ 128) (c .before .before .before .before .answer2 .given .1) (c .before .before .before .before .before .before .before .before .before .before .pre .1), c .input-count2 .ensures .1))
+    (λ c κs. (subst (λ (x : Answer). answerStates x ≤ stateLimit) (c .before .before .before .before .answer2 .given .1) (c .before .before .before .before .before .before .before .before .before .before .pre .1), c .input-count2 .ensures .1))
     (λ c. search needs)
     (λ c.
     let z = c .before .before .before .before .before .before .before .before .before .before .before .before .before .args in

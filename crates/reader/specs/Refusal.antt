@@ -62,8 +62,10 @@ afterText Condition TooManyNodes later = ConditionNodes
 afterText Rule TooManyOperators later = RuleOperators
 afterText Condition TooManyOperators later = ConditionNodes
 
+-- the rule's refusals: 4, 5 and 6
 abbrev pub afterRule : Reading → Refusal → Refusal
 afterRule ρ later = afterText Rule ρ later
 
+-- the condition's: 7 and 8
 abbrev pub afterCondition : Reading → Refusal → Refusal
 afterCondition ρ later = afterText Condition ρ later

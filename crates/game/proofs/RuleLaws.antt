@@ -90,7 +90,8 @@ module _ (φ : Formula) (G : Arena) (automaton : Automaton φ (G .inputs * G .ou
         (λ s. flag-goal (standsOn G 0 (a ∷ p)) (ap (λ (s : ℕ). getD (G .accepting) s 0) (sym e) ∙ m .1 s)),
       )
 
-  beginning-meaning : (p : List Step) (k : ℕ) → 0 < k → k ≤ length p → Along G R 0 p → (goal G (standsOn G 0 (take k p)) ≡ true) ↔ Satisfies φ (take k (letters G p))
+  beginning-meaning : (p : List Step) (k : ℕ) → 0 < k → k ≤ length p → Along G R 0 p
+      → (goal G (standsOn G 0 (take k p)) ≡ true) ↔ Satisfies φ (take k (letters G p))
   beginning-meaning p zero z l h = absurd (let z : ⊥ = omega arith in z)
   beginning-meaning [] (suc k) z l h = absurd (let z : ⊥ = omega arith in z)
   beginning-meaning (a ∷ p) (suc k) z l h =

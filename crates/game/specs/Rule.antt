@@ -38,7 +38,8 @@ Satisfied φ G p = (k : ℕ) × (0 < k) × (k ≤ length p) × Satisfies φ (tak
 -- and until then comes to no byte that is no output
 pub record Can (mode : Mode) (φ : Formula) (G : Arena) (σ : Table) : Type 0 where
   pub satisfying : (p : List Step) → Along G (BySystem G σ) 0 p → Assumed mode G p → Satisfied φ G p
-  pub answers : (p : List Step) → Along G (BySystem G σ) 0 p → (Satisfied φ G p → ⊥) → (x : Input) → x < G .inputs → systemByte G σ (standsOn G 0 p) x < G .outputs
+  pub answers : (p : List Step) → Along G (BySystem G σ) 0 p → (Satisfied φ G p → ⊥) → (x : Input) → x < G .inputs
+      → systemByte G σ (standsOn G 0 p) x < G .outputs
 
 -- "cannot": no play from the start that follows the environment's strategy has a beginning that satisfies the rule, fails the assumption,
 -- or comes to a byte that is no input

@@ -99,7 +99,8 @@ module _ {mode : Mode} {i o : ℕ} {rule condition : List ℕ} {old new : Buffer
     few-states : m .states ≤ stateLimit
     few-states = served-states i o rule condition old (m .reading) (m .condition-reading) (m .states) (ap numberOf (sym (m .first)) ∙ z)
 
-    served-line : {can : Bool} → RuleServed mode i o rule condition old new (m .states) can → (s : ℕ) → s < m .states → length (stateLine (2 ^ i) (new .accepting) (new .system) (new .environment) s) ≤ 56
+    served-line : {can : Bool} → RuleServed mode i o rule condition old new (m .states) can → (s : ℕ) → s < m .states
+        → length (stateLine (2 ^ i) (new .accepting) (new .system) (new .environment) s) ≤ 56
     served-line v s h =
         let p = few-inputs in
         let q = few-outputs in
@@ -110,9 +111,12 @@ module _ {mode : Mode} {i o : ℕ} {rule condition : List ℕ} {old new : Buffer
         (λ w. environment-length (2 ^ i) p (new .system) (new .environment) s (let b = w .byte in omega arith))
         (v .tables .won s h))
 
-    served-length : (can : Bool) → RuleServed mode i o rule condition old new (m .states) can → length (listing i new (verdictOf can (m .states))) ≤ outputSize
-    served-length true v = verdict-length (2 ^ i) (new .accepting) (new .system) (new .environment) canWord (m .states) (omega arith) few-states (served-line v)
-    served-length false v = verdict-length (2 ^ i) (new .accepting) (new .system) (new .environment) cannotWord (m .states) (omega arith) few-states (served-line v)
+    served-length :
+        (can : Bool) → RuleServed mode i o rule condition old new (m .states) can → length (listing i new (verdictOf can (m .states))) ≤ outputSize
+    served-length true v =
+        verdict-length (2 ^ i) (new .accepting) (new .system) (new .environment) canWord (m .states) (omega arith) few-states (served-line v)
+    served-length false v =
+        verdict-length (2 ^ i) (new .accepting) (new .system) (new .environment) cannotWord (m .states) (omega arith) few-states (served-line v)
 
   pub listing-length : length (listing i new r) ≤ outputSize
   listing-length =
@@ -123,7 +127,8 @@ module _ {mode : Mode} {i o : ℕ} {rule condition : List ℕ} {old new : Buffer
       subst (λ (x : Answer). length (listing i new x) ≤ outputSize) (sym (v .1)) (served-length z (v .0) (v .2)))
       (λ f.
       let e : r ≡ Refused (m .refusal) = m .refused (λ n. eqb-false (numberOf (m .refusal)) 0 f (ap numberOf n)) .0 in
-      subst (λ (x : Answer). length (listing i new x) ≤ outputSize) (sym e) (refusal-length (numberOf (m .refusal)) (placeOf (m .refusal)) (number-small (m .refusal)) refusal-place))
+      subst (λ (x : Answer). length (listing i new x) ≤ outputSize) (sym e)
+      (refusal-length (numberOf (m .refusal)) (placeOf (m .refusal)) (number-small (m .refusal)) refusal-place))
 
 -- what the program prints has at most 8,192 bytes
 pub prints-length : {input text : List ℕ} → Prints input text → length text ≤ outputSize
@@ -134,7 +139,8 @@ prints-length {input} {text} p =
     p
 
 -- an output of that size holds the whole text, and nothing else among its first r bytes
-pub listed-whole : {input output output′ : List ℕ} {r : ℕ} (l : Listed input output output′ r) → outputSize ≤ length output → (r ≡ length (l .text)) × (take r output′ ≡ l .text)
+pub listed-whole : {input output output′ : List ℕ} {r : ℕ} (l : Listed input output output′ r) → outputSize ≤ length output
+    → (r ≡ length (l .text)) × (take r output′ ≡ l .text)
 listed-whole {input} {output} {output′} {r} l h =
     let b : length (l .text) ≤ length output = let g = prints-length (l .prints) in omega arith in
     let e : r ≡ length (l .text) = l .count ∙ min-eq-left b in

@@ -26,7 +26,10 @@ fn ask(
     environment: &mut [u8],
 ) -> Answer
     requires { ⌜ isRequest (now input) ≡ true ⌝ }
-    ensures { λ r. ⌜ RuleSolved (modeIn (now (input .entry))) (digitAt (now (input .entry)) 0) (digitAt (now (input .entry)) 2) (rulePart (now (input .entry)) (conditionStart (now (input .entry)))) (conditionPart (now (input .entry)) (conditionStart (now (input .entry)))) (buffers (now (transitions .entry)) (now (accepting .entry)) (now (system .entry)) (now (environment .entry))) (buffers (now (transitions .exit)) (now (accepting .exit)) (now (system .exit)) (now (environment .exit))) r ⌝ }
+    ensures { λ r. ⌜ RuleSolved (modeIn (now (input .entry))) (digitAt (now (input .entry)) 0) (digitAt (now (input .entry)) 2)
+        (rulePart (now (input .entry)) (conditionStart (now (input .entry)))) (conditionPart (now (input .entry)) (conditionStart (now (input .entry))))
+        (buffers (now (transitions .entry)) (now (accepting .entry)) (now (system .entry)) (now (environment .entry)))
+        (buffers (now (transitions .exit)) (now (accepting .exit)) (now (system .exit)) (now (environment .exit))) r ⌝ }
 {
     let start = condition_start(input);
     let end = line_end(input, start);

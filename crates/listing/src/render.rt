@@ -91,7 +91,8 @@ fn put_state(
     environment: &[u8],
 ) -> usize
     requires { ⌜ (s < stateLimit) × (inputs ≤ rowLimit) ⌝ }
-    ensures { λ r. ⌜ Writes (now (out .entry)) at (stateLine inputs (now (accepting .entry)) (now (system .entry)) (now (environment .entry)) s) (now (out .exit)) r ⌝ }
+    ensures { λ r. ⌜ Writes (now (out .entry)) at (stateLine inputs (now (accepting .entry)) (now (system .entry))
+        (now (environment .entry)) s) (now (out .exit)) r ⌝ }
 {
     let a = put_decimal(out, at, s);
     let b = put_mark(out, a, accepting, s);
@@ -110,7 +111,8 @@ fn put_states(
     environment: &[u8],
 ) -> usize
     requires { ⌜ (n ≤ stateLimit) × (inputs ≤ rowLimit) ⌝ }
-    ensures { λ r. ⌜ Writes (now (out .entry)) at (stateLines inputs (now (accepting .entry)) (now (system .entry)) (now (environment .entry)) 0 n) (now (out .exit)) r ⌝ }
+    ensures { λ r. ⌜ Writes (now (out .entry)) at (stateLines inputs (now (accepting .entry)) (now (system .entry))
+        (now (environment .entry)) 0 n) (now (out .exit)) r ⌝ }
 {
     let mut end = at;
     let mut s: usize = 0;
@@ -132,7 +134,8 @@ fn put_verdict(
     environment: &[u8],
 ) -> usize
     requires { ⌜ (n ≤ stateLimit) × (inputs ≤ rowLimit) ⌝ }
-    ensures { λ r. ⌜ Writes (now (out .entry)) 0 (verdictLines inputs (now (accepting .entry)) (now (system .entry)) (now (environment .entry)) (now (word .entry)) n) (now (out .exit)) r ⌝ }
+    ensures { λ r. ⌜ Writes (now (out .entry)) 0 (verdictLines inputs (now (accepting .entry)) (now (system .entry))
+        (now (environment .entry)) (now (word .entry)) n) (now (out .exit)) r ⌝ }
 {
     let a = put_word(out, 0, word);
     let b = put_decimal(out, a, n);
@@ -168,7 +171,8 @@ pub(crate) fn put_listing(
     environment: &[u8],
 ) -> usize
     requires { ⌜ (i ≤ 9) × (answerStates answer ≤ stateLimit) ⌝ }
-    ensures { λ r. ⌜ Writes (now (out .entry)) 0 (listingOf i (now (accepting .entry)) (now (system .entry)) (now (environment .entry)) answer) (now (out .exit)) r ⌝ }
+    ensures { λ r. ⌜ Writes (now (out .entry)) 0 (listingOf i (now (accepting .entry)) (now (system .entry))
+        (now (environment .entry)) answer) (now (out .exit)) r ⌝ }
 {
     match answer {
         Answer::Can(n) => {

@@ -1,4 +1,5 @@
--- Running: one step after the other, by a list of what each step takes. A machine's run takes letters, and so does a walk along transitions; a play takes steps.
+-- Running: one step after the other, by a list of what each step takes. A machine's run takes letters, and so does a walk along transitions; a play
+-- takes steps.
 -- Assumes nothing.
 use mathlib.Core.List.{List, [], _∷_}
 

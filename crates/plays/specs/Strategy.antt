@@ -44,7 +44,8 @@ Failed Stable G p = G .states ≤ count (lacks G) p
 -- the system's strategy holds good from s: every play that follows it reaches a goal where it has to, and until then comes to no byte that is no output
 pub record SystemWins (mode : Mode) (G : Arena) (σ : Table) (s : State) : Type 0 where
   pub reaching : (p : List Step) → Along G (BySystem G σ) s p → Assumed mode G p → reaches G s p ≡ true
-  pub answers : (p : List Step) → Along G (BySystem G σ) s p → reaches G s p ≡ false → (x : Input) → x < G .inputs → systemByte G σ (standsOn G s p) x < G .outputs
+  pub answers : (p : List Step) → Along G (BySystem G σ) s p → reaches G s p ≡ false → (x : Input) → x < G .inputs
+      → systemByte G σ (standsOn G s p) x < G .outputs
 
 -- the environment's strategy holds good from s: every play that follows it reaches no goal, keeps the assumption and comes to no byte that is no input
 pub record EnvironmentWins (mode : Mode) (G : Arena) (τ : Table) (s : State) : Type 0 where

@@ -53,7 +53,8 @@ countPasses r φ = eqb (r .count) (stateCount φ (lettersOf r)) && leb (r .count
 unfoldable pub winnerPasses : Row → Certificate → Formula → Formula → Bool
 unfolding winsOf transitionsOf flagsOf maskOf
 winnerPasses r c φ κ =
-    winsOf (r .can) (isFair (r .mode)) (arenaFor r (transitionsOf φ (lettersOf r)) (flagsOf φ (lettersOf r)) (maskOf κ (r .inputs))) (c .table) (c .ranks)
+    winsOf (r .can) (isFair (r .mode)) (arenaFor r (transitionsOf φ (lettersOf r)) (flagsOf φ (lettersOf r)) (maskOf κ (r .inputs))) (c .table)
+    (c .ranks)
 
 -- the test, over the two formulas
 unfoldable pub passesWith : Row → Certificate → Formula → Formula → Bool

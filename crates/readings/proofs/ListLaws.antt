@@ -43,6 +43,7 @@ computed φ L pos few =
     let n = length (states φ L) in
     let M = machineOf φ in
     automaton-holds M L stateLimit n pos refl (transitionsOf φ L) (flagsOf φ L)
-    (moved-at M L stateLimit n pos refl (transitionsOf φ L) few (λ u h. listOf-at (λ v. position M (target M L (states φ L) v) (states φ L)) (n * L) u h))
+    (moved-at M L stateLimit n pos refl (transitionsOf φ L) few
+    (λ u h. listOf-at (λ v. position M (target M L (states φ L) v) (states φ L)) (n * L) u h))
     (λ s h. listOf-at (λ t. one (accepts φ (stateAt M (states φ L) t))) n s h)
     (Satisfies φ) (formula-recognizes φ L) few

@@ -1,4 +1,5 @@
--- The theorem: every row that the specification marks as proved is a reading. Each has a certificate, and one computation tests them all. There are eleven rows.
+-- The theorem: every row that the specification marks as proved is a reading. Each has a certificate, and one computation tests them all. There are
+-- eleven rows.
 -- Assumes nothing.
 use mathlib.Core.Path.{_≡_, refl}
 use mathlib.Core.List.{List, [], _∷_}
@@ -66,7 +67,8 @@ certificates =
 
 pub readings : All RowHolds rows
 unfolding rows certificates allPass passes passesWith alphabetPasses textsPass sizesPass countPasses winnerPasses readsBy sameBytes fits formulaOf flat winsOf stateOf bytesOf inputOf outputOf stepOf below next goal holds
-    maskOf flagsOf transitionsOf listOf stateCount states discovered look target extend position accepts after start vectors endVector present ends coords value gather ofBits bit
+    maskOf flagsOf transitionsOf listOf stateCount states discovered look target extend position accepts after start vectors endVector present ends
+    coords value gather ofBits bit
     withoutBlanks binaryOf unaryOf operandOf markKind amongOf isTemporalMark allowedBy kindIn operators size
 readings = all-readings rows certificates refl
 

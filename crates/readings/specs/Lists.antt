@@ -1,4 +1,5 @@
--- The automaton of a formula as two lists, computed from the definitions (specification, "Automaton"): the specification's moves and marks of the n reachable states.
+-- The automaton of a formula as two lists, computed from the definitions (specification, "Automaton"): the specification's moves and marks of the n
+-- reachable states.
 -- Assumes nothing.
 use Prim.Native.Nat.{ℕ, zero, suc, _*_}
 use mathlib.Core.List.{List, [], _∷_, _++_}

@@ -2,43 +2,85 @@
 -- Assumes nothing.
 use Prim.Native.Nat.{ℕ, _+_, _<_, _≤_}
 use mathlib.Core.Path.{_≡_, refl, sym, _∙_, subst}
-use mathlib.Core.Bool.{Bool, true, false, not}
+use mathlib.Core.Bool.{Bool, true, false, not, Bool·beq}
 use mathlib.Core.List.{List}
-use mathlib.Core.Logic.{_⊎_}
+use mathlib.Core.Logic.{_⊎_, ⊎-elim}
 use native.Mathlib.Omega.{arith}
-use lib.Dec.{eqb, leb}
+use lib.Dec.{eqb, ltb, leb}
 use lib.ListN.{length, getD, set}
 use lib.Seq.{getD-set-same, getD-set-other}
-use borrow.Author.Tests.{eqb-true, eqb-false, eq-eqb, ne-eqb, leb-true, leb-false}
+use borrow.Author.Tests.{eqb-true, eqb-false, eq-eqb, ne-eqb, ltb-true, ltb-false, leb-true, leb-false}
 use Rattle.automaton.specs.Limits.{stateLimit}
 use Rattle.plays.specs.Arena.{Arena, next, goal, holds, lacks}
 use Rattle.plays.specs.inner.Rank.{judged, Safe, Falls, Ranked, AllowedInput}
 use Rattle.game.specs.Tables.{noMove}
-use Rattle.game.specs.inner.Bytes.{limitOf, Below, IsBelow, GoodOutput, SomeOutput, EveryOutput, SystemByte, EnvironmentByte}
+use Rattle.game.specs.inner.Bytes.{limitOf, Below, IsBelow, GoodOutput, SomeOutput, EveryOutput, Claim, FirstStop, IsSafe, SystemByte, EnvironmentByte}
 use Rattle.game.proofs.ForcingLaws.{safe-map}
 use Rattle.reader.proofs.BoolLaws.{on, clash}
 
+-- a comparison of two truth values
+same-truth : (a b : Bool) → Bool·beq a b ≡ true → a ≡ b
+same-truth true true e = refl
+same-truth true false e = sym e
+same-truth false true e = e
+same-truth false false e = refl
+
+other-truth : (a b : Bool) → Bool·beq a b ≡ false → a ≡ b → ⊥
+other-truth true true e d = mathlib.Core.Bool.true≢false e
+other-truth true false e d = mathlib.Core.Bool.true≢false d
+other-truth false true e d = mathlib.Core.Bool.false≢true d
+other-truth false false e d = mathlib.Core.Bool.true≢false e
+
 -- what is known of the state t that the code entered, said of the next state
 module _ (G : Arena) (s x y t : ℕ) (is : t ≡ next G s x y) where
-  pub goal-in : (getD (G .accepting) t 0 ≡ 0 → ⊥) → goal G (next G s x y) ≡ true
+  goal-in : (getD (G .accepting) t 0 ≡ 0 → ⊥) → goal G (next G s x y) ≡ true
   unfolding goal
   goal-in h = subst (λ (u : ℕ). not (eqb (getD (G .accepting) u 0) 0) ≡ true) is (rw (ne-eqb (getD (G .accepting) t 0) 0 h))
 
-  pub goal-out : getD (G .accepting) t 0 ≡ 0 → goal G (next G s x y) ≡ false
+  goal-out : getD (G .accepting) t 0 ≡ 0 → goal G (next G s x y) ≡ false
   unfolding goal
   goal-out h = subst (λ (u : ℕ). not (eqb (getD (G .accepting) u 0) 0) ≡ false) is (rw (eq-eqb (getD (G .accepting) t 0) 0 h))
 
   module _ (r : List ℕ) (limit : ℕ) where
-    pub below-in : Below r limit t → Below r limit (next G s x y)
+    below-in : Below r limit t → Below r limit (next G s x y)
     below-in h = subst (λ (u : ℕ). Below r limit u) is h
 
-    pub below-out : Below r limit (next G s x y) → Below r limit t
+    below-out : Below r limit (next G s x y) → Below r limit t
     below-out h = subst (λ (u : ℕ). Below r limit u) (sym is) h
 
-    -- neither a goal nor a rank below the limit
-    pub bad-output : getD (G .accepting) t 0 ≡ 0 → (Below r limit t → ⊥) → GoodOutput G r limit s x y → ⊥
-    bad-output g b (_⊎_.inl e) = clash (goal G (next G s x y)) e (goal-out g)
-    bad-output g b (_⊎_.inr d) = b (below-out d)
+    -- a goal ends a player's search
+    pub stops-at-goal : (player : Bool) → (getD (G .accepting) t 0 ≡ 0 → ⊥) → Claim player (GoodOutput G player r limit s x y)
+    stops-at-goal true g = _⊎_.inl (goal-in g)
+    stops-at-goal false g = λ d. clash (goal G (next G s x y)) (goal-in g) (d .0)
+
+    -- elsewhere a rank that is at most the limit ends the system's, and one that is not the environment's
+    module _ (g : getD (G .accepting) t 0 ≡ 0) {b : Bool} (h : IsBelow r limit t b) where
+      pub stops-at-rank : (player : Bool) → Bool·beq b player ≡ true → Claim player (GoodOutput G player r limit s x y)
+      stops-at-rank true e = _⊎_.inr (below-in (h .inside (same-truth b true e)))
+      stops-at-rank false e = λ d. h .outside (same-truth b false e) (below-out (d .1))
+
+      pub goes-on : (player : Bool) → Bool·beq b player ≡ false → Claim (not player) (GoodOutput G player r limit s x y)
+      goes-on true e =
+          ⊎-elim
+          (λ (d : goal G (next G s x y) ≡ true). clash (goal G (next G s x y)) d (goal-out g))
+          (λ d. h .outside (on b (λ w. absurd (other-truth b true e w)) (λ w. w)) (below-out d))
+      goes-on false e = (goal-out g, below-in (h .inside (on b (λ w. w) (λ w. absurd (other-truth b false e w)))))
+
+-- where the system's search ends, if some output is good for it
+pub first-is-good : {G : Arena} {r : List ℕ} {limit s x k : ℕ} → FirstStop G true r limit s x k → SomeOutput G r limit s x
+    → (k < G .outputs) × GoodOutput G true r limit s x k
+first-is-good {G} {k = k} f w =
+    on (ltb k (G .outputs))
+    (λ e. let l = ltb-true k (G .outputs) e in (l, f .here l))
+    (λ e. let l = ltb-false k (G .outputs) e in absurd (f .earlier (w .0) (omega (arith, w .1)) (w .2)))
+
+-- the environment's search ends at the number of outputs exactly when every output is good for it
+pub all-are-good : {G : Arena} {r : List ℕ} {limit s x k : ℕ} → FirstStop G false r limit s x k → IsSafe G r limit s x (eqb k (G .outputs))
+all-are-good {G} {k = k} f =
+    record {
+      safe = λ e y l. let d = eqb-true k (G .outputs) e in f .earlier y (omega arith);
+      unsafe = λ e every. let d = eqb-false k (G .outputs) e in let l : k < G .outputs = omega (arith, f .within) in f .here l (every k l);
+    }
 
 -- the test of a rank
 pub no-rank : (r : List ℕ) (limit t : ℕ) → getD r t 0 ≡ 0 → IsBelow r limit t false
@@ -85,7 +127,7 @@ module _ (fair : Bool) (G : Arena) (small : G .states ≤ stateLimit) (r : List 
       let w = rk .forced s p x hx in
       (w .0, w .1, safe-limit G true fair small r rk s x p b eb limit el (next G s x (w .0)) (w .2))
 
-  pub output-is-byte : (y : ℕ) → (y < G .outputs) × GoodOutput G r limit s x y → SystemByte fair G r s x y
+  pub output-is-byte : (y : ℕ) → (y < G .outputs) × GoodOutput G true r limit s x y → SystemByte fair G r s x y
   output-is-byte y h =
       record {
         none = λ e. let z : ⊥ = omega arith in absurd z;

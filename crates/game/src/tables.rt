@@ -13,6 +13,7 @@ ghost use Rattle.game.specs.inner.Bytes.{
   IsBelow,
   GoodOutput,
   SomeOutput,
+  FirstStop,
   IsSafe,
   SystemByte,
   EnvironmentByte,
@@ -54,6 +55,37 @@ fn is_below(ranks: &[Rank; STATE_LIMIT], most: Rank, t: usize) -> bool
     rank <= most
 }
 
+// Where a player's search ends: at the first output that enters a goal or a state whose rank is at most `most` for the system, or one that is not for the
+// environment, or at the number of outputs.
+fn first_stop(
+    g: Game,
+    transitions: &[u8],
+    accepting: &[u8],
+    ranks: &[Rank; STATE_LIMIT],
+    most: Rank,
+    player: bool,
+    s: usize,
+    x: usize,
+) -> usize
+    requires { ⌜ Valid (arenaOf g (now transitions) (now accepting)) ⌝ }
+    requires { ⌜ (s < g .states) × (x < g .inputs) ⌝ }
+    ensures { λ r. ⌜ FirstStop (arenaOf g (now (transitions .entry)) (now (accepting .entry))) player (now (ranks .entry)) most s x r ⌝ }
+{
+    let outputs = g.outputs;
+    let mut y: usize = 0;
+    while y < outputs {
+        let t = enters(g, transitions, s, x, y);
+        if accepting[t] != 0 {
+            return y;
+        }
+        if is_below(ranks, most, t) == player {
+            return y;
+        }
+        y += 1;
+    }
+    y
+}
+
 // The first output that enters a goal or a state whose rank is at most `most`.
 fn first_output(
     g: Game,
@@ -67,21 +99,9 @@ fn first_output(
     requires { ⌜ Valid (arenaOf g (now transitions) (now accepting)) ⌝ }
     requires { ⌜ (s < g .states) × (x < g .inputs) ⌝ }
     requires { ⌜ SomeOutput (arenaOf g (now transitions) (now accepting)) (now ranks) most s x ⌝ }
-    ensures { λ r. ⌜ (r < g .outputs) × GoodOutput (arenaOf g (now (transitions .entry)) (now (accepting .entry))) (now (ranks .entry)) most s x r ⌝ }
+    ensures { λ r. ⌜ (r < g .outputs) × GoodOutput (arenaOf g (now (transitions .entry)) (now (accepting .entry))) true (now (ranks .entry)) most s x r ⌝ }
 {
-    let outputs = g.outputs;
-    let mut y: usize = 0;
-    while y < outputs {
-        let t = enters(g, transitions, s, x, y);
-        if accepting[t] != 0 {
-            return y;
-        }
-        if is_below(ranks, most, t) {
-            return y;
-        }
-        y += 1;
-    }
-    y
+    first_stop(g, transitions, accepting, ranks, most, true, s, x)
 }
 
 // Whether every output for input x avoids the goals and enters a state whose rank is at most `most`.
@@ -98,19 +118,7 @@ fn is_safe(
     requires { ⌜ (s < g .states) × (x < g .inputs) ⌝ }
     ensures { λ r. ⌜ IsSafe (arenaOf g (now (transitions .entry)) (now (accepting .entry))) (now (ranks .entry)) most s x r ⌝ }
 {
-    let outputs = g.outputs;
-    let mut y: usize = 0;
-    while y < outputs {
-        let t = enters(g, transitions, s, x, y);
-        if accepting[t] != 0 {
-            return false;
-        }
-        if !is_below(ranks, most, t) {
-            return false;
-        }
-        y += 1;
-    }
-    true
+    first_stop(g, transitions, accepting, ranks, most, false, s, x) == g.outputs
 }
 
 // The system's byte for state s and input x: 255 where the system does not win from s.

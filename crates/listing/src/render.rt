@@ -14,7 +14,6 @@ use crate::write::put;
 use crate::write::put_decimal;
 use crate::write::put_word;
 use game::answer::Answer;
-use game::limits::NO_MOVE;
 use reader::refusal::number_of;
 use reader::refusal::place_of;
 
@@ -72,7 +71,7 @@ fn put_winner(
     requires { ⌜ (s < stateLimit) × (inputs ≤ rowLimit) ⌝ }
     ensures { λ r. ⌜ Writes (now (out .entry)) at (winnerFields inputs (now (system .entry)) (now (environment .entry)) s) (now (out .exit)) r ⌝ }
 {
-    if byte_at(environment, s) == NO_MOVE {
+    if byte_at(environment, s) == 255 {
         let end = put(out, at, b'S');
         return put_fields(out, end, system, s * inputs, inputs);
     }

@@ -2,7 +2,7 @@
 -- Assumes nothing.
 use Prim.Native.Nat.{ℕ, _*_, _-_, _/_, _%_, _<_, _≤_}
 use mathlib.Core.Path.{_≡_}
-use mathlib.Core.Bool.{Bool, true, false}
+use mathlib.Core.Bool.{Bool, true, false, not}
 use mathlib.Core.List.{List}
 use lib.ListN.{length, getD}
 use Rattle.game.specs.inner.Limits.{rankLimit}
@@ -26,19 +26,29 @@ pub record IsBelow (r : List ℕ) (limit t : ℕ) (b : Bool) : Type 0 where
   pub inside : b ≡ true → Below r limit t
   pub outside : b ≡ false → Below r limit t → ⊥
 
--- output y enters a goal, or a state whose rank is at most `limit`
-abbrev pub GoodOutput : (G : Arena) (r : List ℕ) (limit : ℕ) (s : State) (x : Input) (y : Output) → Type 0
-GoodOutput G r limit s x y = Safe G true (next G s x y) (Below r limit (next G s x y))
+-- output y is good for a player by its ranks: the state that it enters is safe for the player, with a rank that is at most `limit`
+abbrev pub GoodOutput : (G : Arena) (player : Bool) (r : List ℕ) (limit : ℕ) (s : State) (x : Input) (y : Output) → Type 0
+GoodOutput G player r limit s x y = Safe G player (next G s x y) (Below r limit (next G s x y))
 
--- some output does
+-- some output is good for the system, and every output is good for the environment
 abbrev pub SomeOutput : (G : Arena) (r : List ℕ) (limit : ℕ) (s : State) (x : Input) → Type 0
-SomeOutput G r limit s x = (y : ℕ) × (y < G .outputs) × GoodOutput G r limit s x y
+SomeOutput G r limit s x = (y : ℕ) × (y < G .outputs) × GoodOutput G true r limit s x y
 
--- every output avoids the goals and enters a state whose rank is at most `limit`
 abbrev pub EveryOutput : (G : Arena) (r : List ℕ) (limit : ℕ) (s : State) (x : Input) → Type 0
-EveryOutput G r limit s x = (y : ℕ) → y < G .outputs → Safe G false (next G s x y) (Below r limit (next G s x y))
+EveryOutput G r limit s x = (y : ℕ) → y < G .outputs → GoodOutput G false r limit s x y
 
--- b says whether every output does
+-- A, or not A
+abbrev pub Claim : Bool → Type 0 → Type 0
+Claim true A = A
+Claim false A = A → ⊥
+
+-- k is where a player's search ends: the first output that is good for the system, the first that is not for the environment, or the number of outputs
+pub record FirstStop (G : Arena) (player : Bool) (r : List ℕ) (limit s x k : ℕ) : Type 0 where
+  pub within : k ≤ G .outputs
+  pub earlier : (y : ℕ) → y < k → Claim (not player) (GoodOutput G player r limit s x y)
+  pub here : k < G .outputs → Claim player (GoodOutput G player r limit s x k)
+
+-- b says whether every output is good for the environment
 pub record IsSafe (G : Arena) (r : List ℕ) (limit s x : ℕ) (b : Bool) : Type 0 where
   pub safe : b ≡ true → EveryOutput G r limit s x
   pub unsafe : b ≡ false → EveryOutput G r limit s x → ⊥

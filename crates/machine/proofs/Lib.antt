@@ -4,3 +4,4 @@ pub mod Reachable
 pub mod AutomatonLaws
 pub mod OneAutomaton
 pub mod ExplorationLaws
+pub mod Samples

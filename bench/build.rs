@@ -1,4 +1,4 @@
-//! README: links libcapi.a, whose directory is in CAPI_LIB_DIR, to the program `bench`.
+//! Links libcapi.a, whose directory is in CAPI_LIB_DIR, to the program `bench`.
 
 /// Reads CAPI_LIB_DIR and hands the archive to the linker.
 fn main() {

@@ -1,4 +1,4 @@
-//! README: makes the Rust declarations of include/airtable.h (for src/header.rs), and links libcapi.a
+//! Makes the Rust declarations of include/airtable.h (for src/header.rs), and links libcapi.a
 //! (its directory is in CAPI_LIB_DIR) to the program `compare` alone, and only when the feature `capi`
 //! is asked for; `cargo test` works without the library.
 //!

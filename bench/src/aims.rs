@@ -1,4 +1,4 @@
-//! README: the aims, and the rows that fall short of them: the library at most twice the solver's
+//! The aims, and the rows that fall short of them: the library at most twice the solver's
 //! time, and on the largest rules a hundred times as fast as MONA.
 
 use crate::clock::Pair;

@@ -1,4 +1,4 @@
-//! README: medians of interleaved samples. Each sample runs a call as often as fills about a
+//! Medians of interleaved samples. Each sample runs a call as often as fills about a
 //! millisecond; the contenders take turns, every other time in the opposite order, so that a slow
 //! spell of the machine meets them all.
 

@@ -1,4 +1,4 @@
-//! README: library and solver on one input: the answers are compared before anything is timed. Any
+//! Library and solver on one input: the answers are compared before anything is timed. Any
 //! difference ends the run with exit code 1.
 
 use crate::inputs::Rule;

@@ -1,4 +1,4 @@
-//! README: how much a solver by ranks has to do on a game: rounds, passes, looks at states and
+//! How much a solver by ranks has to do on a game: rounds, passes, looks at states and
 //! steps that are tried. Counted on sets of states after docs/THEORY.md, section 4, with a search
 //! from output 0 on where the library begins at its witness; it is not timed.
 

@@ -1,4 +1,4 @@
-//! README: families of rules that grow one thing at a time: the states at fixed letters and
+//! Families of rules that grow one thing at a time: the states at fixed letters and
 //! operators, the letters at a fixed rule, the operators at fixed letters.
 
 use crate::inputs::Rule;

@@ -1,4 +1,4 @@
-//! README: the tables of given automata: the worst shapes and random ones, in both modes, with the
+//! The tables of given automata: the worst shapes and random ones, in both modes, with the
 //! counts of a solver by ranks beside the times.
 
 use crate::aims::Aims;

@@ -1,4 +1,4 @@
-//! README: growth of the automaton's time. A rule is called in fair mode under the condition `0`,
+//! Growth of the automaton's time. A rule is called in fair mode under the condition `0`,
 //! so that one pass ends the game; what is left of the game and the tables is timed by the call
 //! for a given automaton on the same automaton, and taken off.
 

@@ -1,4 +1,4 @@
-//! README: the rules that are measured: readings of small rules, the published rows that the
+//! The rules that are measured: readings of small rules, the published rows that the
 //! limits allow, and the largest rules that are known.
 
 use solver::large::LARGE;

@@ -1,4 +1,4 @@
-//! README: MONA's automaton held against ours, for every list of letters at once: a walk over the
+//! MONA's automaton held against ours, for every list of letters at once: a walk over the
 //! pairs of states that some list reaches. And the count: MONA's is minimal, so it has as many
 //! states as ours has classes, with its own state 0 in addition.
 

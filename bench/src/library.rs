@@ -1,4 +1,4 @@
-//! README: the two solving calls of include/airtable.h, with buffers that are kept from call to
+//! The two solving calls of include/airtable.h, with buffers that are kept from call to
 //! call, so that nothing is allocated while a call is timed.
 
 use solver::calls::Given;

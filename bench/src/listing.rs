@@ -1,4 +1,4 @@
-//! README: MONA's printed automaton, read into moves over our letters. In M2L-str its state 0 only
+//! MONA's printed automaton, read into moves over our letters. In M2L-str its state 0 only
 //! takes a column that is no position; the state after it stands before the first position.
 
 use crate::inputs::Rule;

@@ -1,4 +1,4 @@
-//! README: the library, the independent solver and MONA on the same inputs, side by side, printed
+//! The library, the independent solver and MONA on the same inputs, side by side, printed
 //! as Markdown. Exit code 1 if their answers differ. The argument is the program `airtable`.
 //!
 //! clock, timed      interleaved samples and their medians; the calls that are timed

@@ -1,4 +1,4 @@
-//! README: a rule as a formula of MONA's logic M2L-str, by the usual translation to first-order
+//! A rule as a formula of MONA's logic M2L-str, by the usual translation to first-order
 //! logic over positions: a name is a set of positions, and a subformula is asked at a position,
 //! the whole rule at position 0. A bound position is one of the list's, so that after the last one
 //! there is no `y = x + 1`: strong next asks for such a position, weak next for all of them.

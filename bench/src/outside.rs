@@ -1,4 +1,4 @@
-//! README: MONA over a whole run: its automaton held against ours for the measured rules and for
+//! MONA over a whole run: its automaton held against ours for the measured rules and for
 //! random ones, which is a check of the library from outside, and what its start costs.
 
 use crate::clock::median;

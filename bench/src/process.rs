@@ -1,4 +1,4 @@
-//! README: runs of MONA: the wall clock of a quiet run, and the automaton that a run prints.
+//! Runs of MONA: the wall clock of a quiet run, and the automaton that a run prints.
 
 use crate::clock::{median, Contender};
 use crate::timed::Call;

@@ -1,4 +1,4 @@
-//! README: the tables of rules: library and solver in both modes, MONA, and the ratios. MONA's
+//! The tables of rules: library and solver in both modes, MONA, and the ratios. MONA's
 //! automaton is held against ours for every rule.
 
 use crate::aims::Aims;

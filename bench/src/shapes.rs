@@ -1,4 +1,4 @@
-//! README: given automata that ask much of a solver by ranks (docs/THEORY.md, section 4), each as
+//! Given automata that ask much of a solver by ranks (docs/THEORY.md, section 4), each as
 //! a law from n. State 0 loses for the station and the last state is the goal. Between them stand
 //!
 //! heads  head k gets its outer rank only a round after head k - 1: one round for each

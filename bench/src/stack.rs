@@ -1,4 +1,4 @@
-//! README: the least stack under which the program answers as it does without a limit, by trying
+//! The least stack under which the program answers as it does without a limit, by trying
 //! `ulimit -s` in steps of 8 KB down from 256, with an empty environment.
 
 use crate::cells;

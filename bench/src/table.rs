@@ -1,4 +1,4 @@
-//! README: Markdown tables: a row of heads, then rows of cells; and numbers of three digits.
+//! Markdown tables: a row of heads, then rows of cells; and numbers of three digits.
 
 /// A table under making.
 pub struct Table {

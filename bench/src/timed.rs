@@ -1,4 +1,4 @@
-//! README: the calls that are timed, each with its own buffers, which are there before the clock
+//! The calls that are timed, each with its own buffers, which are there before the clock
 //! starts. What the solver allocates inside its call is part of its time.
 
 use crate::clock::{pair, Pair};

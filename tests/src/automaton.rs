@@ -1,4 +1,4 @@
-//! README: the automaton of the specification: vectors with one bit a coordinate, states as sets of vectors in
+//! The automaton of the specification: vectors with one bit a coordinate, states as sets of vectors in
 //! a 64-bit word, discovery breadth first with letters ascending. `build_wide` does the same with
 //! ordered sets for any count of operators; it checks the other and serves published rules that
 //! are over the specification's limits.

@@ -1,4 +1,4 @@
-//! README: the calls of the specification with their refusals in the specification's order and the buffers after. Everything is
+//! The calls of the specification with their refusals in the specification's order and the buffers after. Everything is
 //! checked first, in the order of the specification's last table, and only then is anything written.
 
 use crate::automaton::{build, Automaton};

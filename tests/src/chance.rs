@@ -1,4 +1,4 @@
-//! README: a small seeded generator (xorshift) so that every run can be repeated.
+//! A small seeded generator (xorshift) so that every run can be repeated.
 
 /// The generator's state; never 0.
 #[derive(Clone, Debug)]

@@ -1,4 +1,4 @@
-//! README: both games of source document 002 by nested fixpoints over sets of states (one u128,
+//! Both games of the specification ("Game") by nested fixpoints over sets of states (one u128,
 //! bit s for state s). Only entered states count: goals are looked at after a step, never at the
 //! state a step leaves. Each side's winning set is computed by its own fixpoint.
 //!

@@ -1,4 +1,4 @@
-//! README: judges tables, whoever made them, by the graph of plays that follow them. A table says
+//! Judges tables, whoever made them, by the graph of plays that follow them. A table says
 //! by its own bytes which states it wins: the winner's bytes are in range and the loser's are 255.
 //! Each such claim is then checked exactly, from every state:
 //!

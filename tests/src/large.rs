@@ -1,4 +1,4 @@
-//! README: rules with about 128 states, found by search; each with its count, i and o.
+//! Rules with about 128 states, found by search; each with its count, i and o.
 
 /// Count of states, i, o, rule.
 pub const LARGE: &[(usize, usize, usize, &[u8])] = &[

@@ -1,4 +1,4 @@
-//! README: an independent solver for the rule engine, written from its specification alone.
+//! An independent solver for the rule engine, written from its specification alone.
 //! It is slow and plain on purpose; a verified library is tested against it.
 //!
 //! wording    which bytes are marks, for a rule or for a condition

@@ -1,4 +1,4 @@
-//! README: the program `airtable` as a function from the bytes of its standard input to the bytes
+//! The program `airtable` as a function from the bytes of its standard input to the bytes
 //! of its standard output, and the taking apart of such a listing for the judge.
 
 use crate::calls::{solve_rule, Buffers, Refusal, Verdict};

@@ -1,4 +1,4 @@
-//! README: the largest count of marked edges on any path of a graph of at most 128 nodes. Exact:
+//! The largest count of marked edges on any path of a graph of at most 128 nodes. Exact:
 //! reachability finds every cycle, and where none has a marked edge the longest count is found by
 //! repeated improvement. Nothing is sampled.
 

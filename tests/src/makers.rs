@@ -1,4 +1,4 @@
-//! README: seeded makers of texts, automata and lists for the comparing programs and the tests.
+//! Seeded makers of texts, automata and lists for the comparing programs and the tests.
 
 use crate::chance::Chance;
 

@@ -1,4 +1,4 @@
-//! README: what a rule means, directly from the specification's words, position by position of a list, with a
+//! What a rule means, directly from the specification's words, position by position of a list, with a
 //! memory for each node and position. No automaton is used.
 
 use crate::tree::Tree;

@@ -1,4 +1,4 @@
-//! README: the C declarations of include/airtable.h, read from its text: the prototypes, the numbers
+//! The C declarations of include/airtable.h, read from its text: the prototypes, the numbers
 //! that it names, and the prototypes again as Rust declarations. What it cannot read is a panic.
 //! build.rs uses this file too.
 

@@ -1,4 +1,4 @@
-//! README: recursive descent from text to tree. It only says yes or no; the place of a bad text
+//! Recursive descent from text to tree. It only says yes or no; the place of a bad text
 //! is found by another method, in `viable`. The limits are checked here too.
 
 use crate::tree::{Node, Tree};

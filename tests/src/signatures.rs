@@ -1,4 +1,4 @@
-//! README: the public functions of Rattle sources, read by their tokens and so whatever the layout:
+//! The public functions of Rattle sources, read by their tokens and so whatever the layout:
 //! name, parameters, result, and the clauses of the contract. What it cannot read is a panic.
 
 use std::fs;

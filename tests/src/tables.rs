@@ -1,4 +1,4 @@
-//! README: tables for both sides, chosen by the stages of the fixpoints. Which byte is chosen
+//! Tables for both sides, chosen by the stages of the fixpoints. Which byte is chosen
 //! among those that serve is free; `pick` says which, so that tests can try several.
 
 use crate::game::{outside_layers, station_layers, Board, Game, Layer};

@@ -1,4 +1,4 @@
-//! README: a rule or condition after reading: a list of nodes, each with its mark, the place of
+//! A rule or condition after reading: a list of nodes, each with its mark, the place of
 //! that mark in the text and its operands. Parentheses leave no node.
 
 use crate::wording::{is_temporal, name_holds};

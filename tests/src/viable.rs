@@ -1,4 +1,4 @@
-//! README: how many first bytes of a text can begin some text of the grammar. This is Earley's
+//! How many first bytes of a text can begin some text of the grammar. This is Earley's
 //! method: the set of half-read productions after k bytes is empty exactly if no text of the
 //! grammar begins with them (every part of this grammar can be finished: `0` is always a text).
 //! Blanks may stand anywhere between marks, so they leave the set as it is.

@@ -1,4 +1,4 @@
-//! README: the marks of the grammar. A wording says how many names are in reach and whether
+//! The marks of the grammar. A wording says how many names are in reach and whether
 //! temporal marks are allowed, so that rules and conditions share one reader.
 
 /// What may stand in a text: the first `inputs` and `outputs` names, and temporal marks or none.

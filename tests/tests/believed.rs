@@ -1,6 +1,6 @@
-//! README: the definitions that a reader has to believe stand in crates/*/specs, and those that only the private
+//! The definitions that a reader has to believe stand in crates/*/specs, and those that only the private
 //! functions and the proofs use in specs/inner. No believed file uses an inner one, and every file is in the list
-//! of its folder.
+//! of its folder, after those that it uses.
 
 use std::collections::BTreeSet;
 use std::fs;
@@ -52,6 +52,38 @@ fn every_file_is_in_its_list() {
         assert_eq!(declared(&list), inner, "{}: inner", folder.display());
     }
     assert!(specs().iter().map(|folder| names(&folder.join("inner")).len()).sum::<usize>() > 10);
+}
+
+/// The files that a source uses of its own crate's believed ones.
+fn own_uses(source: &str) -> BTreeSet<String> {
+    let rest = source.split("·specs.specs.").skip(1);
+    let names = rest.map(|rest| rest.split(|c: char| !c.is_alphanumeric()).next().unwrap().to_string());
+    names.filter(|name| name != "declared" && name != "inner").collect()
+}
+
+/// The first use that stands before what it uses, in a list of files with their sources.
+fn too_early<'a>(files: &[(&'a str, String)]) -> Option<(&'a str, String)> {
+    let mut before = BTreeSet::new();
+    for (name, source) in files {
+        if let Some(used) = own_uses(source).into_iter().find(|used| !before.contains(used)) {
+            return Some((name, used));
+        }
+        before.insert(name.to_string());
+    }
+    None
+}
+
+#[test]
+fn the_lists_are_in_the_order_of_reading() {
+    for folder in specs() {
+        let list = fs::read_to_string(folder.join("Lib.antt")).unwrap();
+        let names = list.lines().filter_map(|line| line.strip_prefix("pub mod ")).filter(|name| *name != "inner");
+        let source = |name: &str| fs::read_to_string(folder.join(format!("{name}.antt"))).unwrap();
+        let files: Vec<(&str, String)> = names.map(|name| (name, source(name))).collect();
+        assert_eq!(too_early(&files), None, "{}", folder.display());
+    }
+    let wrong = [("Play", "use Rattle.plays.specs.Arena.{Arena}\n".to_string()), ("Arena", String::new())];
+    assert_eq!(too_early(&wrong), Some(("Play", "Arena".to_string())));
 }
 
 #[test]

@@ -1,4 +1,4 @@
-//! README: the calls: every refusal number, their order when several apply, the buffers after,
+//! The calls: every refusal number, their order when several apply, the buffers after,
 //! and the follower.
 
 use solver::automaton::build;

@@ -1,4 +1,4 @@
-//! README: what is asked of every call that can be reached from outside: a contract that says something
+//! What is asked of every call that can be reached from outside: a contract that says something
 //! of its result, on every input. Read off the sources of the crates.
 //!
 //! A public function has a row in `PROMISES`, and each of its `ensures` clauses is one promise, applied
@@ -16,13 +16,13 @@ const PROMISES: &[Row] = &[
     ("reader::reading::too_long", &["tooLong"]),
     ("reader::reading::check", &["ReadingOf"]),
     ("reader::reading::read", &["ReadingOf", "Written"]),
-    ("reader::refusal::rule_refusal", &["afterRule reading Nothing"]),
-    ("reader::refusal::condition_refusal", &["afterCondition reading Nothing"]),
+    ("reader::refusal::text_refusal", &["afterText subject reading Nothing"]),
     ("reader::refusal::number_of", &["numberOf"]),
     ("reader::refusal::place_of", &["placeOf"]),
     ("automaton::alphabet::bad_alphabet", &["badAlphabet"]),
-    ("automaton::alphabet::power", &["cond (ltb k 9) (2 ^ k) 0"]),
+    ("automaton::alphabet::power", &["cond (leb k (2 * nameLimit)) (2 ^ k) 0"]),
     ("automaton::alphabet::first_over", &["firstOver"]),
+    ("automaton::bytes::wide", &["b"]),
     ("automaton::construct::construct", &["Constructed"]),
     ("automaton::condition::read_condition", &["Conditioned"]),
     ("automaton::trial::try_rule", &["Tried"]),

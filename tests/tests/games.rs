@@ -1,4 +1,4 @@
-//! README: the games: the solver's own tables before the judge on random automata, the judge's
+//! The games: the solver's own tables before the judge on random automata, the judge's
 //! teeth on spoiled tables, and the automaton against the meaning of rules.
 
 use solver::automaton::{build, build_wide};

@@ -1,4 +1,4 @@
-//! README: include/airtable.h held against what it declares: its prototypes against the signatures in
+//! Include/airtable.h held against what it declares: its prototypes against the signatures in
 //! crates/capi/src/lib.rt, and its names of the refusals against the definition of their numbers.
 
 use solver::prototypes::{constants, prototypes, rust_declarations, Base, Form, Prototype, Type};

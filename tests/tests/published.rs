@@ -1,4 +1,4 @@
-//! README: every row of published.tsv. Columns: source, i, o, mode, condition, rule, second rule,
+//! Every row of published.tsv. Columns: source, i, o, mode, condition, rule, second rule,
 //! the source's answer, states by the specification, operators, nodes. "can" and "cannot" are verdicts of the
 //! game; "valid" says that every list satisfies the rule. Rows over the limits are refused by the
 //! calls; their states are counted with wide sets, and their games played where n fits.

@@ -1,4 +1,4 @@
-//! README: the reader: grouping, counting, places of bad texts by three methods that must agree,
+//! The reader: grouping, counting, places of bad texts by three methods that must agree,
 //! and the limits.
 
 use solver::calls::{solve_rule, try_rule, Refusal};

@@ -1,4 +1,4 @@
-//! README: every line of the specification's "Readings", the printed example and the mistakes an
+//! Every line of the specification's "Readings", the printed example and the mistakes an
 //! engineer would make.
 
 use solver::automaton::build;
@@ -130,7 +130,7 @@ fn the_theorem_has_the_proved_readings() {
     let source = specs("Rows.antt");
     let lines = row_lines(&source);
     assert!(are_proved(&lines));
-    let reading = specs("Reading.antt");
+    let reading = specs("Row.antt");
     assert!(
         ROW.iter().all(|line| reading.lines().any(|found| found == *line)),
         "the words of a row stand for something else"

@@ -1,7 +1,7 @@
 // The program `airtable`: reads four lines from standard input and prints the listing that `listing` makes of them. It has no exit status to give, so it
 // says on standard error what it could not read or write.
-use listing::respond::INPUT_SIZE;
-use listing::respond::OUTPUT_SIZE;
+use listing::limits::INPUT_SIZE;
+use listing::limits::OUTPUT_SIZE;
 use listing::respond::respond;
 
 // What came of reading: so many bytes, or a failure.

@@ -4,7 +4,8 @@ use mathlib.Core.Path.{_≡_, refl, sym, ap, ap₂, _∙_, subst}
 use mathlib.Core.Bool.{Bool, true, false, not, _&&_, _||_}
 use mathlib.Core.List.{List, [], _∷_}
 use mathlib.Core.Logic.{⊎-elim}
-use native.Mathlib.Nat.{mul-add-mod-self-right, mod-eq-of-lt, pow-suc, mul-comm, mul-assoc, add-comm, zero-lt-suc, le-refl, lt-of-lt-of-le, le-of-suc-le-suc, not-suc-le-zero, eq-or-lt-of-le, le-step, add-mul-div-right, add-mul-mod-self-right, div-eq-of-lt, sub-add-cancel, zero-add, suc-add, div-one}
+use native.Mathlib.Nat.{mul-add-mod-self-right, mod-eq-of-lt, pow-suc, mul-comm, mul-assoc, add-comm, le-refl, lt-of-lt-of-le}
+use native.Mathlib.Nat.{le-of-suc-le-suc, not-suc-le-zero, eq-or-lt-of-le, le-step, add-mul-div-right, add-mul-mod-self-right, div-eq-of-lt, sub-add-cancel}
 use native.Mathlib.Omega.{arith}
 use native.Mathlib.Numerals.{add-one}
 use lib.Dec.{eqb}
@@ -12,7 +13,8 @@ use lib.ListN.{length, getD}
 use lib.Arith.{digits-lt}
 use lib.Bits.{bitAnd, bitOr, bitXor, and-block, or-block, xor-block, or-shifted-r}
 use lib.Pow.{pow-pos, pow-mono, pow-add, high, shl-exact}
-use Rattle.automaton.specs.Bits.{bit, one, ofBits, gather}
+use Rattle.automaton.specs.Limits.{coordinateLimit, vectorLimit, pairLimit}
+use Rattle.automaton.specs.Bits.{wordBits, bit, one, ofBits, gather}
 
 pub one-lt : (b : Bool) → one b < 2
 one-lt true = omega arith
@@ -124,21 +126,21 @@ bit-gather bs k h = bit-ofBits (λ j. getD bs j false) (length bs) k h
 -- ---- what the code's shifts do
 
 -- `x | (b << k)`, for an x with bits below k only
-pub set-shifted : (x k b : ℕ) → k < 64 → b < 2 → x < 2 ^ k → bitOr x (b * 2 ^ k % 2 ^ 64) ≡ b * 2 ^ k + x
-set-shifted x k b hk hb hx = ap (bitOr x) (shl-exact 1 k 64 hb (omega arith)) ∙ or-shifted-r b k x hx
+pub set-shifted : (x k b : ℕ) → k < wordBits → b < 2 → x < 2 ^ k → bitOr x (b * 2 ^ k % 2 ^ 64) ≡ b * 2 ^ k + x
+set-shifted x k b hk hb hx = ap (bitOr x) (shl-exact 1 k wordBits hb (omega arith)) ∙ or-shifted-r b k x hx
 
 -- `x | ((3 * b) << (2 * k))`, for an x with bits below 2 * k only
-pub set-pair-shifted : (x k b : ℕ) → k < 32 → b < 2 → x < 2 ^ (2 * k) → bitOr x (3 * b * 2 ^ (2 * k) % 2 ^ 64) ≡ 3 * b * 2 ^ (2 * k) + x
-set-pair-shifted x k b hk hb hx = ap (bitOr x) (shl-exact 2 (2 * k) 64 (omega arith) (omega arith)) ∙ or-shifted-r (3 * b) (2 * k) x hx
+pub set-pair-shifted : (x k b : ℕ) → 2 * k < wordBits → b < 2 → x < 2 ^ (2 * k) → bitOr x (3 * b * 2 ^ (2 * k) % 2 ^ 64) ≡ 3 * b * 2 ^ (2 * k) + x
+set-pair-shifted x k b hk hb hx = ap (bitOr x) (shl-exact 2 (2 * k) wordBits (omega arith) (omega arith)) ∙ or-shifted-r (3 * b) (2 * k) x hx
 
 none : (n : ℕ) → ofBits (λ v. false) n ≡ 0
 unfolding ofBits
 none zero = refl
 none (suc n) = omega (arith, none n)
 
--- no vector below 64 has a coordinate from 6 on
-pub no-coordinate : (j : ℕ) → 6 ≤ j → ofBits (λ v. bit v j) 64 ≡ 0
-no-coordinate j h = ofBits-ext (λ v. bit v j) (λ v. false) 64 (λ v l. bit-high v 6 j l h) ∙ none 64
+-- no valuation has a coordinate beyond the limit
+pub no-coordinate : (j : ℕ) → coordinateLimit ≤ j → ofBits (λ v. bit v j) vectorLimit ≡ 0
+no-coordinate j h = ofBits-ext (λ v. bit v j) (λ v. false) vectorLimit (λ v l. bit-high v coordinateLimit j l h) ∙ none vectorLimit
 
 -- the turn of a loop that makes a word: bit n, as a number, is put above the bits below n
 pub ofBits-step : (f : ℕ → Bool) (n x b : ℕ) → x ≡ ofBits f n → b ≡ one (f n) → b * 2 ^ n + x ≡ ofBits f (n + 1)
@@ -146,7 +148,8 @@ unfolding ofBits
 ofBits-step f n x b ex eb = ap₂ (λ (y z : ℕ). y * 2 ^ n + z) eb ex ∙ ap (ofBits f) (sym (add-one n))
 
 -- the same with two bits at once, where the bits 2 * k and 2 * k + 1 are both f k
-pub pair-step : (f : ℕ → Bool) (k x b : ℕ) → x ≡ ofBits (λ v. f (v / 2)) (2 * k) → b ≡ one (f k) → 3 * b * 2 ^ (2 * k) + x ≡ ofBits (λ v. f (v / 2)) (2 * (k + 1))
+pub pair-step : (f : ℕ → Bool) (k x b : ℕ) → x ≡ ofBits (λ v. f (v / 2)) (2 * k)
+    → b ≡ one (f k) → 3 * b * 2 ^ (2 * k) + x ≡ ofBits (λ v. f (v / 2)) (2 * (k + 1))
 unfolding ofBits
 pair-step f k x b ex eb =
     let low : 2 * k / 2 ≡ k = omega arith in
@@ -168,11 +171,11 @@ all zero = refl
 all (suc n) = rw pow-suc (omega (arith, all n))
 
 -- a word whose bits are all one bit
-pub same-false : (b : Bool) → b ≡ false → 0 ≡ ofBits (λ v. b) 64
-same-false b e = sym (ap (λ (x : Bool). ofBits (λ v. x) 64) e ∙ none 64)
+pub same-false : (b : Bool) → b ≡ false → 0 ≡ ofBits (λ v. b) vectorLimit
+same-false b e = sym (ap (λ (x : Bool). ofBits (λ v. x) vectorLimit) e ∙ none vectorLimit)
 
-pub same-true : (b : Bool) → b ≡ true → 0xFFFF_FFFF_FFFF_FFFF ≡ ofBits (λ v. b) 64
-same-true b e = omega (arith, all 64, ap (λ (x : Bool). ofBits (λ v. x) 64) e)
+pub same-true : (b : Bool) → b ≡ true → 0xFFFF_FFFF_FFFF_FFFF ≡ ofBits (λ v. b) vectorLimit
+same-true b e = omega (arith, all vectorLimit, ap (λ (x : Bool). ofBits (λ v. x) vectorLimit) e)
 
 pub one-true : (b : Bool) → one b ≡ 1 → b ≡ true
 one-true true e = refl
@@ -183,16 +186,16 @@ one-false true f = absurd (f refl)
 one-false false f = refl
 
 -- `1 << w`
-pub one-shifted : (w : ℕ) → w ≤ 6 → 1 * 2 ^ w % 2 ^ 64 ≡ 2 ^ w
-one-shifted w h = shl-exact 1 w 64 (omega arith) (omega arith) ∙ omega arith
+pub one-shifted : (w : ℕ) → w ≤ coordinateLimit → 1 * 2 ^ w % 2 ^ 64 ≡ 2 ^ w
+one-shifted w h = shl-exact 1 w wordBits (omega arith) (omega arith) ∙ omega arith
 
 -- `(1 << w) / 2`
-pub half-few : (w : ℕ) → w ≤ 6 → 1 * 2 ^ w % 2 ^ 64 / 2 ≤ 32
+pub half-few : (w : ℕ) → w ≤ coordinateLimit → 1 * 2 ^ w % 2 ^ 64 / 2 ≤ pairLimit
 half-few w h =
-    let few : 2 ^ w ≤ 64 = pow-mono {i = w} {j = 6} h in
+    let few : 2 ^ w ≤ vectorLimit = pow-mono {i = w} {j = coordinateLimit} h in
     omega (arith, one-shifted w h)
 
-pub half-shifted : (w n : ℕ) → w ≤ 6 → w ≡ suc n → 1 * 2 ^ w % 2 ^ 64 / 2 ≡ 2 ^ n
+pub half-shifted : (w n : ℕ) → w ≤ coordinateLimit → w ≡ suc n → 1 * 2 ^ w % 2 ^ 64 / 2 ≡ 2 ^ n
 half-shifted w n h e =
     let double : 2 ^ w ≡ 2 ^ n * 2 = ap (λ (i : ℕ). 2 ^ i) e ∙ pow-suc 2 n in
     omega (arith, one-shifted w h)
@@ -213,5 +216,5 @@ ofBits-mod f (suc n) k h =
     (eq-or-lt-of-le h)
 
 -- `1 << k`
-pub bit-shifted : (k : ℕ) → k < 64 → 1 * 2 ^ k % 2 ^ 64 ≡ 2 ^ k
-bit-shifted k h = shl-exact 1 k 64 (omega arith) (omega arith) ∙ omega arith
+pub bit-shifted : (k : ℕ) → k < wordBits → 1 * 2 ^ k % 2 ^ 64 ≡ 2 ^ k
+bit-shifted k h = shl-exact 1 k wordBits (omega arith) (omega arith) ∙ omega arith

@@ -38,8 +38,10 @@ mask-judges κ i e x h =
     (λ t. w .0 (sym b ∙ t), λ s. b ∙ w .1 s)
 
 module _ (i : ℕ) (text : List ℕ) where
-  refused : (ρ : Reading) → ReadingOf i (conditionKind i) text ρ → (x : Refusal) → isNothing x ≡ false → x ≡ conditionRefusal i text ρ → Conditioned i text (Refused x)
-  refused ρ r x s e = record { reading = ρ; read = r; refusal = x; first = e; number = refl; place = refl; refused = λ _. refl; served = λ z. absurd (something x s z) }
+  refused : (ρ : Reading) → ReadingOf i (conditionKind i) text ρ → (x : Refusal)
+      → isNothing x ≡ false → x ≡ conditionRefusal i text ρ → Conditioned i text (Refused x)
+  refused ρ r x s e =
+      record { reading = ρ; read = r; refusal = x; first = e; number = refl; place = refl; refused = λ _. refl; served = λ z. absurd (something x s z) }
 
   unread : (x : Refusal) → isNothing x ≡ false → ((ρ : Reading) → x ≡ conditionRefusal i text ρ) → Conditioned i text (Refused x)
   unread x s e = let r = some-reading i 0 false text in refused (r .0) (r .1) x s (e (r .0))
@@ -54,13 +56,15 @@ module _ (i : ℕ) (text : List ℕ) where
     by-length q = unread TextLength refl (λ ρ. rw (p, q))
 
     module _ (q : tooLong text ≡ false) where
-      pub by-reading : (ρ : Reading) → ReadingOf i (conditionKind i) text ρ → NotGood ρ → (x : Refusal) → x ≡ afterCondition ρ Nothing → Conditioned i text (Refused x)
+      pub by-reading : (ρ : Reading) → ReadingOf i (conditionKind i) text ρ → NotGood ρ
+          → (x : Refusal) → x ≡ afterCondition ρ Nothing → Conditioned i text (Refused x)
       unfolding conditionRefusal
       by-reading ρ r g x e =
           let f = condition-refused ρ g in
           refused ρ r x (ap isNothing e ∙ f .is-refused) (rw (p, q) e)
 
-      pub by-mask : (m : ℕ) → ReadingOf i (conditionKind i) text (Good m) → (κ : Formula) → IsGood i (conditionKind i) text κ → operators κ ≡ 0 → (n : ℕ) → n ≡ maskOf κ i → Conditioned i text (Mask n)
+      pub by-mask : (m : ℕ) → ReadingOf i (conditionKind i) text (Good m) → (κ : Formula)
+          → IsGood i (conditionKind i) text κ → operators κ ≡ 0 → (n : ℕ) → n ≡ maskOf κ i → Conditioned i text (Mask n)
       unfolding conditionRefusal
       by-mask m r κ g e n u =
           record {

@@ -1,8 +1,8 @@
 -- The promise of the construction call (specs/Construction.antt), by the test that decided.
 -- Assumes nothing.
-use Prim.Native.Nat.{ℕ, suc, _*_, _≤_, _<_}
-use mathlib.Core.Path.{_≡_, refl, sym, ap, _∙_, subst}
-use mathlib.Core.Bool.{Bool, true, false, cond}
+use Prim.Native.Nat.{ℕ, _*_, _≤_}
+use mathlib.Core.Path.{_≡_, refl, sym, ap, _∙_}
+use mathlib.Core.Bool.{true, false, cond}
 use mathlib.Core.List.{List}
 use native.Mathlib.Omega.{arith}
 use lib.Dec.{ltb}
@@ -13,14 +13,13 @@ use Rattle.reader.specs.declared.reading.Reading.the-variants.{Good}
 use Rattle.reader.specs.declared.refusal.Refusal.{Refusal}
 use Rattle.reader.specs.declared.refusal.Refusal.the-variants.{Nothing, Alphabet, TextLength, Buffer, StateCount}
 use Rattle.reader.specs.Limits.{tooLong}
-use Rattle.reader.specs.Formula.{Formula, size}
+use Rattle.reader.specs.Formula.{Formula}
 use Rattle.reader.specs.Marks.{ruleKind}
 use Rattle.reader.specs.Reading.{ReadingOf, IsGood}
 use Rattle.reader.specs.Refusal.{isNothing, afterRule}
 use Rattle.reader.proofs.BoolLaws.{or-left, or-right}
 use Rattle.reader.proofs.RefusalLaws.{differs, something, NotGood, rule-refused}
 use Rattle.reader.proofs.Unambiguous.{one-formula, some-reading}
-use Rattle.automaton.specs.declared.construct.Construction.{Construction}
 use Rattle.automaton.specs.declared.construct.Construction.the-variants.{Built, Refused}
 use Rattle.automaton.specs.Limits.{stateLimit}
 use Rattle.automaton.specs.Alphabet.{badAlphabet, letterCount}
@@ -42,8 +41,8 @@ long-enough L t a e =
 
 module _ (i o : ℕ) (text t a : List ℕ) where
   -- refused with the buffers as they were
-  refused : (ρ : Reading) → ReadingOf i (ruleKind i o) text ρ → (x : Refusal) → isNothing x ≡ false → (x ≡ StateCount → ⊥) → ((n : ℕ) → x ≡ constructRefusal i o text t a ρ n)
-      → Constructed i o text t a t a (Refused x)
+  refused : (ρ : Reading) → ReadingOf i (ruleKind i o) text ρ → (x : Refusal) → isNothing x ≡ false → (x ≡ StateCount → ⊥)
+      → ((n : ℕ) → x ≡ constructRefusal i o text t a ρ n) → Constructed i o text t a t a (Refused x)
   refused ρ r x s d e =
       let n = count-of i o text ρ r in
       record {
@@ -61,7 +60,8 @@ module _ (i o : ℕ) (text t a : List ℕ) where
         untouched = λ _ _. (refl, refl);
       }
 
-  unread : (x : Refusal) → isNothing x ≡ false → (x ≡ StateCount → ⊥) → ((ρ : Reading) (n : ℕ) → x ≡ constructRefusal i o text t a ρ n) → Constructed i o text t a t a (Refused x)
+  unread : (x : Refusal) → isNothing x ≡ false → (x ≡ StateCount → ⊥) → ((ρ : Reading) (n : ℕ) → x ≡ constructRefusal i o text t a ρ n)
+      → Constructed i o text t a t a (Refused x)
   unread x s d e = let r = some-reading i o true text in refused (r .0) (r .1) x s d (e (r .0))
 
   pub by-alphabet : badAlphabet i o ≡ true → Constructed i o text t a t a (Refused Alphabet)
@@ -79,11 +79,13 @@ module _ (i o : ℕ) (text t a : List ℕ) where
       by-buffer b = unread Buffer refl (differs Buffer StateCount (λ e. omega arith)) (λ ρ n. rw (p, q, b))
 
       module _ (b : shortAutomaton (letterCount i o) t a ≡ false) where
-        pub by-reading : (ρ : Reading) → ReadingOf i (ruleKind i o) text ρ → NotGood ρ → (x : Refusal) → x ≡ afterRule ρ Nothing → Constructed i o text t a t a (Refused x)
+        pub by-reading : (ρ : Reading) → ReadingOf i (ruleKind i o) text ρ → NotGood ρ → (x : Refusal) → x ≡ afterRule ρ Nothing
+            → Constructed i o text t a t a (Refused x)
         unfolding constructRefusal
         by-reading ρ r g x e =
             let f = rule-refused ρ g in
-            refused ρ r x (ap isNothing e ∙ f .is-refused) (λ z. f .not-count (sym e ∙ z)) (λ n. rw (p, q, b) (e ∙ sym (f .first (cond (ltb stateLimit n) StateCount Nothing))))
+            refused ρ r x (ap isNothing e ∙ f .is-refused) (λ z. f .not-count (sym e ∙ z))
+            (λ n. rw (p, q, b) (e ∙ sym (f .first (cond (ltb stateLimit n) StateCount Nothing))))
 
         -- the refusal of a good text, by the number of its states
         counted-refusal : (m n : ℕ) → constructRefusal i o text t a (Good m) n ≡ cond (ltb stateLimit n) StateCount Nothing
@@ -120,7 +122,8 @@ module _ (i o : ℕ) (text t a : List ℕ) where
                 number = refl;
                 place = refl;
                 answer = refl;
-                served = λ _. record { formula = φ; good = g; automaton = v .automaton; transitions-rest = v .transitions-rest; accepting-rest = v .accepting-rest };
+                served = λ _.
+                    record { formula = φ; good = g; automaton = v .automaton; transitions-rest = v .transitions-rest; accepting-rest = v .accepting-rest };
                 over = λ z. absurd (differs Nothing StateCount (λ e. omega arith) z);
                 untouched = λ d _. absurd (d refl);
               }

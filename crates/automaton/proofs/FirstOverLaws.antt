@@ -1,4 +1,4 @@
--- Laws of the first number of a list that is `bound` or more (specs/Trial.antt).
+-- Laws of the first number of a list that is `bound` or more (specs/Alphabet.antt).
 -- Assumes nothing.
 use Prim.Native.Nat.{ℕ, zero, suc, _+_, _≤_, _<_}
 use mathlib.Core.Path.{_≡_, refl, sym, ap, _∙_}
@@ -12,8 +12,7 @@ use lib.ListN.{length, getD, drop, drop-of-length-le}
 use lib.Seq.{drop-cons}
 use borrow.Author.Tests.{le-leb, lt-leb, leb-false}
 use Rattle.reader.proofs.BoolLaws.{on}
-use Rattle.automaton.specs.Alphabet.{Letters}
-use Rattle.automaton.specs.Trial.{firstOver}
+use Rattle.automaton.specs.Alphabet.{Letters, firstOver}
 
 -- one number of the list, with what comes after it
 module _ (bound : ℕ) (w : List ℕ) (k : ℕ) where

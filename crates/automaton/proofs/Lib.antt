@@ -6,12 +6,9 @@ pub mod ValuationLaws
 pub mod Meaning
 pub mod PairLaws
 pub mod SuccessorLaws
-pub mod PositionLaws
-pub mod DiscoveryLaws
-pub mod Reachable
 pub mod ExplorationLaws
 pub mod TwinLaws
-pub mod AutomatonLaws
+pub mod BuildLaws
 pub mod FirstOverLaws
 pub mod ReadLaws
 pub mod ConstructionLaws

@@ -13,30 +13,35 @@ use lib.Dec.{eqb}
 use lib.ListN.{getD, length, set, drop}
 use lib.Seq.{getD-set-same, getD-set-other, drop-cons}
 use Rattle.reader.specs.Formula.{Formula, operators}
+use Rattle.automaton.specs.Limits.{pairLimit}
 use Rattle.automaton.specs.Bits.{one}
 use Rattle.automaton.specs.Valuation.{present, vectors}
 use Rattle.automaton.specs.inner.Representation.{Tabulates}
 
 -- the elements from s on are f's up to i, and x, which is f's, is stored at s + i
-pub row-more : (f : ℕ → ℕ) (l : List ℕ) (s i x : ℕ) → s + i < length l → x ≡ f i → ((k : ℕ) → k < i → getD l (s + k) 0 ≡ f k) → (k : ℕ) → k < i + 1 → getD (set l (s + i) x) (s + k) 0 ≡ f k
+pub row-more : (f : ℕ → ℕ) (l : List ℕ) (s i x : ℕ) → s + i < length l → x ≡ f i
+    → ((k : ℕ) → k < i → getD l (s + k) 0 ≡ f k) → (k : ℕ) → k < i + 1 → getD (set l (s + i) x) (s + k) 0 ≡ f k
 row-more f l s i x h e all =
-    below-more (λ (k : ℕ). getD (set l (s + i) x) (s + k) 0 ≡ f k) i (λ k b. getD-set-other l (s + i) (s + k) x 0 (λ q. let z : ⊥ = omega arith in z) ∙ all k b) (getD-set-same l (s + i) x 0 h ∙ e)
+    below-more (λ (k : ℕ). getD (set l (s + i) x) (s + k) 0 ≡ f k) i
+    (λ k b. getD-set-other l (s + i) (s + k) x 0 (λ q. let z : ⊥ = omega arith in z) ∙ all k b) (getD-set-same l (s + i) x 0 h ∙ e)
 
 -- what stands in front of s is as it was, and x is stored from there on
 pub front-more : (l l₀ : List ℕ) (s i x : ℕ) → ((k : ℕ) → k < s → getD l k 0 ≡ getD l₀ k 0) → (k : ℕ) → k < s → getD (set l (s + i) x) k 0 ≡ getD l₀ k 0
 front-more l l₀ s i x all k h = getD-set-other l (s + i) k x 0 (λ q. let z : ⊥ = omega arith in z) ∙ all k h
 
 -- the rows of m entries below a, and then row a, with what is in front of it kept
-pub rows-more : (m : ℕ) (f : ℕ → ℕ → ℕ) (l l₀ : List ℕ) (a : ℕ) → m ≤ 32 → ((b k : ℕ) → b < a → k < m → getD l₀ (b * 32 + k) 0 ≡ f b k) → ((k : ℕ) → k < m → getD l (a * 32 + k) 0 ≡ f a k) → ((k : ℕ) → k < a * 32 → getD l k 0 ≡ getD l₀ k 0) →
-    (b k : ℕ) → b < a + 1 → k < m → getD l (b * 32 + k) 0 ≡ f b k
+pub rows-more : (m : ℕ) (f : ℕ → ℕ → ℕ) (l l₀ : List ℕ) (a : ℕ) → m ≤ pairLimit → ((b k : ℕ) → b < a → k < m → getD l₀ (b * pairLimit + k) 0 ≡ f b k)
+    → ((k : ℕ) → k < m → getD l (a * pairLimit + k) 0 ≡ f a k) → ((k : ℕ) → k < a * pairLimit → getD l k 0 ≡ getD l₀ k 0)
+    → (b k : ℕ) → b < a + 1 → k < m → getD l (b * pairLimit + k) 0 ≡ f b k
 rows-more m f l l₀ a few old row front b k hb hk =
     ⊎-elim
-    (λ (q : b ≡ a). subst (λ (x : ℕ). getD l (x * 32 + k) 0 ≡ f x k) (sym q) (row k hk))
-    (λ (q : b < a). front (b * 32 + k) (omega arith) ∙ old b k q hk)
+    (λ (q : b ≡ a). subst (λ (x : ℕ). getD l (x * pairLimit + k) 0 ≡ f x k) (sym q) (row k hk))
+    (λ (q : b < a). front (b * pairLimit + k) (omega arith) ∙ old b k q hk)
     (eq-or-lt-of-le {n = b} {m = a} (omega arith))
 
 -- full rows hold what the table is asked for
-pub rows-tabulate : (φ : Formula) (L m : ℕ) (l : List ℕ) → m ≡ 2 ^ operators φ → ((a k : ℕ) → a < L → k < m → getD l (a * 32 + k) 0 ≡ present φ a (2 * k)) → Tabulates φ L l
+pub rows-tabulate : (φ : Formula) (L m : ℕ) (l : List ℕ) → m ≡ 2 ^ operators φ
+    → ((a k : ℕ) → a < L → k < m → getD l (a * pairLimit + k) 0 ≡ present φ a (2 * k)) → Tabulates φ L l
 unfolding Tabulates vectors
 rows-tabulate φ L m l e all a k ha hk = all a k ha (omega (arith, pow-suc 2 (operators φ)))
 

@@ -10,12 +10,15 @@ use native.Mathlib.Nat.{zero-lt-suc}
 use native.Mathlib.Omega.{arith}
 use lib.Dec.{T}
 use lib.ListN.{length}
+use Rattle.machine.specs.Letters.{Letter, Trace}
+use Rattle.machine.specs.Run.{run}
+use Rattle.machine.proofs.AutomatonLaws.{Recognizes}
 use Rattle.reader.specs.Formula.{Formula, constant, name, unary, neg, next, weak, eventually, always, binary, until, release, conj, disj, impl, operators}
 use Rattle.automaton.specs.Bits.{bit}
 use Rattle.automaton.specs.Trace.{Satisfies}
 use Rattle.automaton.specs.Valuation.{value, coords, ends, vectors, present, endVector}
-use Rattle.automaton.specs.State.{start, after, accepts}
-use Rattle.automaton.specs.inner.Fold.{valuation, run}
+use Rattle.automaton.specs.State.{start, after, accepts, machineOf}
+use Rattle.automaton.specs.inner.Fold.{valuation}
 use Rattle.automaton.proofs.BitLaws.{bit-ofBits, bit-gather}
 use Rattle.automaton.proofs.StepLaws.{by-test, by-true}
 use Rattle.automaton.proofs.ValuationLaws.{Right, value-holds, valuation-lt, valuation-right}
@@ -42,16 +45,22 @@ pub valuation-satisfies : (φ : Formula) (w : List ℕ) → (bit (valuation φ w
 valuation-satisfies φ w = by-true (valuation-decides φ w)
 
 -- after a trace the state holds the end valuation exactly when the state before held the trace's valuation
-run-valuation : (φ : Formula) (w : List ℕ) (s : ℕ) → accepts φ (run φ s w) ≡ bit s (valuation φ w)
+run-valuation : (φ : Formula) (w : Trace) (s : ℕ) → accepts φ (run (after φ) s w) ≡ bit s (valuation φ w)
 unfolding run valuation accepts after
 run-valuation φ [] s = refl
 run-valuation φ (a ∷ w) s = run-valuation φ w (after φ s a) ∙ bit-ofBits (λ v. bit s (present φ a v)) (vectors φ) (valuation φ w) (valuation-lt φ w)
 
 -- demand 2's claim, for the automaton as the specification defines it
-pub run-accepts : (φ : Formula) (a : ℕ) (w : List ℕ) → T (accepts φ (run φ (start φ) (a ∷ w))) ↔ Satisfies φ (a ∷ w)
+pub run-accepts : (φ : Formula) (a : Letter) (w : Trace) → T (accepts φ (run (after φ) (start φ) (a ∷ w))) ↔ Satisfies φ (a ∷ w)
 unfolding start
 run-accepts φ a w =
-    by-test (run-valuation φ (a ∷ w) (start φ) ∙ bit-ofBits (λ u. bit u 0) (vectors φ) (valuation φ (a ∷ w)) (valuation-lt φ (a ∷ w))) (valuation-decides φ (a ∷ w))
+    by-test
+    (run-valuation φ (a ∷ w) (start φ) ∙ bit-ofBits (λ u. bit u 0) (vectors φ) (valuation φ (a ∷ w)) (valuation-lt φ (a ∷ w)))
+    (valuation-decides φ (a ∷ w))
+
+-- so the formula's machine recognizes the traces that satisfy the formula
+pub formula-recognizes : (φ : Formula) (L : ℕ) → Recognizes (machineOf φ) L (Satisfies φ)
+formula-recognizes φ L a w h = by-true (run-accepts φ a w)
 
 -- ---- formulas without temporal operators
 

@@ -7,14 +7,15 @@ use native.Mathlib.Omega.{arith}
 use lib.ListN.{drop, getD, length, length-append, List·getD-append}
 use lib.Seq.{getD-append-add, sets, sets-eq}
 use Rattle.reader.specs.Limits.{nodeLimit, operatorLimit}
-use Rattle.reader.specs.Formula.{Unary, neg, next, weak, eventually, always, Binary, until, release, conj, disj, impl, Formula, constant, name, unary, binary, size, withUnary, withBinary, operators}
-use Rattle.reader.specs.inner.Nodes.{unaryCode, binaryCode, wordOf, code, nodesOf}
+use Rattle.reader.specs.Formula.{Unary, neg, next, weak, eventually, always, Binary, until, release, conj, disj, impl, withUnary, withBinary}
+use Rattle.reader.specs.Formula.{Formula, constant, name, unary, binary, size, operators}
+use Rattle.reader.specs.inner.Nodes.{unaryCode, binaryCode, fieldSize, wordOf, code, nodesOf}
 use Rattle.automaton.specs.inner.Representation.{Represents}
 use Rattle.reader.proofs.NodeLaws.{size-pos, code-length}
 use Rattle.automaton.specs.inner.Nodes.{Node, at-constant, at-name, at-unary, at-binary, nodeKind, leftOf, argumentOf}
 
 -- ---- the fields of a word
-module _ (kind left argument : ℕ) (small : kind < 256) (near : left < 256) where
+module _ (kind left argument : ℕ) (small : kind < fieldSize) (near : left < fieldSize) where
   pub kind-field : nodeKind (wordOf kind left argument) ≡ kind
   kind-field = omega arith
 
@@ -25,14 +26,14 @@ module _ (kind left argument : ℕ) (small : kind < 256) (near : left < 256) whe
   argument-field = omega arith
 
 -- a kind fits its field
-pub unary-small : (u : Unary) → unaryCode u < 256
+pub unary-small : (u : Unary) → unaryCode u < fieldSize
 unary-small neg = omega arith
 unary-small next = omega arith
 unary-small weak = omega arith
 unary-small eventually = omega arith
 unary-small always = omega arith
 
-pub binary-small : (b : Binary) → binaryCode b < 256
+pub binary-small : (b : Binary) → binaryCode b < fieldSize
 binary-small until = omega arith
 binary-small release = omega arith
 binary-small conj = omega arith
@@ -84,7 +85,8 @@ module _ (nodes : List ℕ) where
       let q : n + size φ + size ψ ≡ suc i = omega arith in
       let t = stretch-right nodes n (size φ) xs _ (code-length φ n k) s in
       at-binary {j = j} {ψ = ψ}
-      (ap (λ (m : ℕ). getD nodes m 0) (sym q) ∙ stretch-head nodes (n + size φ + size ψ) _ [] (stretch-right nodes (n + size φ) (size ψ) ys _ (code-length ψ (n + size φ) K) t)
+      (ap (λ (m : ℕ). getD nodes m 0) (sym q)
+      ∙ stretch-head nodes (n + size φ + size ψ) _ [] (stretch-right nodes (n + size φ) (size ψ) ys _ (code-length ψ (n + size φ) K) t)
       ∙ ap (λ (l : ℕ). wordOf (binaryCode b) l (k + operators φ)) (sym p))
       (omega arith)
       (stretch-node n k j φ p (stretch-left nodes n xs _ s))
@@ -98,7 +100,8 @@ module _ (nodes : List ℕ) where
       (λ j h. ap (λ (i : ℕ). getD nodes i 0) (zero-add j) ∙ r .words j (omega (arith, r .count, code-length φ 0 1)))
 
 -- a buffer whose front was overwritten by the words of a formula within the limits
-pub written-represents : (nodes : List ℕ) (φ : Formula) → size φ ≤ nodeLimit → operators φ ≤ operatorLimit → size φ ≤ length nodes → Represents (sets nodes 0 (nodesOf φ)) (size φ) φ
+pub written-represents : (nodes : List ℕ) (φ : Formula) → size φ ≤ nodeLimit
+    → operators φ ≤ operatorLimit → size φ ≤ length nodes → Represents (sets nodes 0 (nodesOf φ)) (size φ) φ
 written-represents nodes φ few ops room =
     let n = code-length φ 0 1 in
     let rest = drop (0 + length (nodesOf φ)) nodes in

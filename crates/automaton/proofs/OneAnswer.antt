@@ -55,7 +55,8 @@ module _ {i o : ℕ} {text letters : List ℕ} {r r′ : Trial} (x : Tried i o t
       u .answer ∙ ap (λ (b : Bool). cond b Satisfied Violated) (same-test (u .satisfied) (v .satisfied) (u .right) w) ∙ sym (v .answer))
       (λ n.
       let e = something (x .refusal) n in
-      x .refused e ∙ ap Rattle.automaton.specs.declared.trial.Trial.the-variants.Refused same-trial-refusal ∙ sym (y .refused (λ z. e (same-trial-refusal ∙ z))))
+      x .refused e ∙ ap Rattle.automaton.specs.declared.trial.Trial.the-variants.Refused same-trial-refusal
+      ∙ sym (y .refused (λ z. e (same-trial-refusal ∙ z))))
       (refused-or-served (x .refusal))
 
 module _ {i : ℕ} {text : List ℕ} {r r′ : Assumption} (x : Conditioned i text r) (y : Conditioned i text r′) where
@@ -73,7 +74,8 @@ module _ {i : ℕ} {text : List ℕ} {r r′ : Assumption} (x : Conditioned i te
       u .answer ∙ ap (λ (κ : Formula). Mask (maskOf κ i)) e ∙ sym (v .answer))
       (λ n.
       let e = something (x .refusal) n in
-      x .refused e ∙ ap Rattle.automaton.specs.declared.condition.Assumption.the-variants.Refused same-condition-refusal ∙ sym (y .refused (λ z. e (same-condition-refusal ∙ z))))
+      x .refused e ∙ ap Rattle.automaton.specs.declared.condition.Assumption.the-variants.Refused same-condition-refusal
+      ∙ sym (y .refused (λ z. e (same-condition-refusal ∙ z))))
       (refused-or-served (x .refusal))
 
 -- the rule's number of states does not matter
@@ -121,7 +123,8 @@ module _ {i o : ℕ} {text t a t₁ a₁ t₂ a₂ : List ℕ} {r r′ : Constru
       (u .automaton, u .transitions-rest, u .accepting-rest) (v .automaton, v .transitions-rest, v .accepting-rest))
       (λ n.
       let e = something (x .refusal) n in
-      one-refused i o text (x .refusal) (y .refusal) same-construction-refusal t a t₁ a₁ t₂ a₂ (x .over, x .untouched e) (y .over, y .untouched (λ z. e (same-construction-refusal ∙ z))))
+      one-refused i o text (x .refusal) (y .refusal) same-construction-refusal t a t₁ a₁ t₂ a₂
+      (x .over, x .untouched e) (y .over, y .untouched (λ z. e (same-construction-refusal ∙ z))))
       (refused-or-served (x .refusal))
 
 -- two runs of the construction call agree in the answer and in both buffers

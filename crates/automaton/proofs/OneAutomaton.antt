@@ -1,28 +1,33 @@
 -- The promise on the buffers has one answer: a formula, its letters and the old contents determine the transitions and the flags, every byte of them;
 -- so do a refusal and the old contents.
 -- Assumes nothing.
-use Prim.Native.Nat.{ℕ, _+_, _*_, _/_, _%_, _<_}
+use Prim.Native.Nat.{ℕ, _*_, _<_}
 use mathlib.Core.Path.{_≡_, refl, sym, _∙_, subst, subst₂}
 use mathlib.Core.List.{List}
 use mathlib.Core.Logic.{_⊎_, ⊎-elim}
-use native.Mathlib.Nat.{mod-lt, div-add-mod'}
 use native.Mathlib.Omega.{arith}
 use lib.Dec.{ltb}
 use lib.ListN.{getD}
 use lib.Seq.{ext-getD}
 use borrow.Author.Tests.{ltb-true, ltb-false}
+use Rattle.machine.specs.Letters.{Trace}
+use Rattle.machine.specs.Machine.{Machine}
+use Rattle.machine.specs.Automaton as machine
+use Rattle.machine.proofs.OneAutomaton.{one-transition, one-flag}
 use Rattle.reader.specs.declared.refusal.Refusal.{Refusal}
-use Rattle.reader.specs.declared.refusal.Refusal.the-variants.{Nothing, Alphabet, TextLength, Buffer, RuleText, RuleNodes, RuleOperators, ConditionText, ConditionNodes, StateCount, GivenCount, Move, State, Value}
+use Rattle.reader.specs.declared.refusal.Refusal.the-variants.{Nothing, Alphabet, TextLength, Buffer, RuleText, RuleNodes, RuleOperators}
+use Rattle.reader.specs.declared.refusal.Refusal.the-variants.{ConditionText, ConditionNodes, StateCount, GivenCount, Move, State, Value}
 use Rattle.reader.specs.Formula.{Formula}
 use Rattle.reader.proofs.BoolLaws.{on}
 use Rattle.reader.proofs.RefusalLaws.{differs}
 use Rattle.automaton.specs.Limits.{stateLimit}
-use Rattle.automaton.specs.Automaton.{Automaton, Cleared}
+use Rattle.automaton.specs.Automaton.{Automaton}
+use Rattle.automaton.specs.Buffer.{Cleared}
 use Rattle.automaton.specs.Construction.{Over}
-use Rattle.automaton.proofs.DiscoveryLaws.{quotient-lt}
 
 -- two buffers that agree on what is used, and are cleared alike behind it, are one
-one-buffer : (used share : ℕ) (old new new′ : List ℕ) → Cleared used share old new → Cleared used share old new′ → ((k : ℕ) → k < used → getD new k 0 ≡ getD new′ k 0) → new ≡ new′
+pub one-buffer : (used share : ℕ) (old new new′ : List ℕ) → Cleared used share old new → Cleared used share old new′
+    → ((k : ℕ) → k < used → getD new k 0 ≡ getD new′ k 0) → new ≡ new′
 one-buffer used share old new new′ c d same =
     ext-getD 0 new new′ (c .size ∙ sym (d .size))
     (λ k h. on (ltb k used)
@@ -31,29 +36,17 @@ one-buffer used share old new new′ c d same =
     (λ f. c .rest k (ltb-false k used e) (ltb-true k share f) ∙ sym (d .rest k (ltb-false k used e) (ltb-true k share f)))
     (λ f. c .beyond k (ltb-false k share f) ∙ sym (d .beyond k (ltb-false k share f)))))
 
-module _ (φ : Formula) (L n : ℕ) (pos : 0 < L) (t a t′ a′ : List ℕ) (x : Automaton φ L n t a) (y : Automaton φ L n t′ a′) where
-  -- a transition leads to the one state that is there
-  same-move : (k : ℕ) → k < n * L → getD t k 0 ≡ getD t′ k 0
-  same-move k h =
-      let s : ℕ = k / L in
-      let b : ℕ = k % L in
-      let e : s * L + b ≡ k = div-add-mod' k L in
-      let l = quotient-lt k n L pos h in
-      let m = mod-lt k pos in
-      let u = x .moved s b l m in
-      let v = y .moved s b l m in
-      let w : getD t (s * L + b) 0 ≡ getD t′ (s * L + b) 0 =
-      x .numbering .distinct (getD t (s * L + b) 0) (getD t′ (s * L + b) 0) (subst (λ (j : ℕ). getD t (s * L + b) 0 < j) (x .count) (u .0)) (subst (λ (j : ℕ). getD t′ (s * L + b) 0 < j) (x .count) (v .0)) (u .1 ∙ sym (v .1)) in
-      subst (λ (j : ℕ). getD t j 0 ≡ getD t′ j 0) e w
+-- the automaton of a machine, cleared behind it, is one
+module _ {S : Type 0} {M : Machine S} {Good Good′ : Trace → Type 0} {L limit n : ℕ} {t a t′ a′ : List ℕ}
+    (x : machine.Automaton M Good L limit n t a) (y : machine.Automaton M Good′ L limit n t′ a′) where
+  pub one-transitions : 0 < L → (share : ℕ) (old : List ℕ) → Cleared (n * L) share old t → Cleared (n * L) share old t′ → t ≡ t′
+  one-transitions pos share old c d = one-buffer (n * L) share old t t′ c d (one-transition x y pos)
 
-  one-transitions : (share : ℕ) (old : List ℕ) → Cleared (n * L) share old t → Cleared (n * L) share old t′ → t ≡ t′
-  one-transitions share old c d = one-buffer (n * L) share old t t′ c d same-move
-
-  one-accepting : (share : ℕ) (old : List ℕ) → Cleared n share old a → Cleared n share old a′ → a ≡ a′
-  one-accepting share old c d = one-buffer n share old a a′ c d (λ k h. x .marked k h ∙ sym (y .marked k h))
+  pub one-accepting : (share : ℕ) (old : List ℕ) → Cleared n share old a → Cleared n share old a′ → a ≡ a′
+  one-accepting share old c d = one-buffer n share old a a′ c d (one-flag x y)
 
 -- the buffers of a served call: the automaton with n states, and cleared behind it
-abbrev pub Built : Formula → ℕ → ℕ → List ℕ → List ℕ → List ℕ → List ℕ → Type 0
+abbrev pub Built : (φ : Formula) (L n : ℕ) (t a t′ a′ : List ℕ) → Type 0
 Built φ L n t a t′ a′ = Automaton φ L n t′ a′ × Cleared (n * L) (stateLimit * L) t t′ × Cleared n stateLimit a a′
 
 -- a formula and its letters determine both buffers
@@ -61,7 +54,7 @@ pub one-automaton : (L : ℕ) → 0 < L → (φ ψ : Formula) → φ ≡ ψ → 
     → Built φ L n t a t₁ a₁ → Built ψ L m t a t₂ a₂ → (t₁ ≡ t₂) × (a₁ ≡ a₂)
 one-automaton L pos φ ψ e n m f t a t₁ a₁ t₂ a₂ x y =
     let z : Built φ L n t a t₂ a₂ = subst₂ (λ (χ : Formula) (k : ℕ). Built χ L k t a t₂ a₂) (sym e) (sym f) y in
-    (one-transitions φ L n pos t₁ a₁ t₂ a₂ (x .0) (z .0) (stateLimit * L) t (x .1) (z .1), one-accepting φ L n pos t₁ a₁ t₂ a₂ (x .0) (z .0) stateLimit a (x .2) (z .2))
+    (one-transitions (x .0) (z .0) pos (stateLimit * L) t (x .1) (z .1), one-accepting (x .0) (z .0) stateLimit a (x .2) (z .2))
 
 -- a refusal is 9 or another
 nine-or-other : (x : Refusal) → (x ≡ StateCount) ⊎ (x ≡ StateCount → ⊥)
@@ -81,7 +74,7 @@ nine-or-other State = _⊎_.inr (differs State StateCount (λ e. omega arith))
 nine-or-other (Value k) = _⊎_.inr (differs (Value k) StateCount (λ e. omega arith))
 
 -- the buffers of a refused call: after 9 the transitions are cleared, after any other refusal both are as they were
-abbrev pub LeftBy : ℕ → ℕ → List ℕ → Refusal → List ℕ → List ℕ → List ℕ → List ℕ → Type 0
+abbrev pub LeftBy : (i o : ℕ) (text : List ℕ) (x : Refusal) (t a t′ a′ : List ℕ) → Type 0
 LeftBy i o text x t a t′ a′ = (x ≡ StateCount → Over i o text t a t′ a′) × ((x ≡ StateCount → ⊥) → (t′ ≡ t) × (a′ ≡ a))
 
 -- a refusal determines both buffers

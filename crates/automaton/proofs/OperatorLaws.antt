@@ -10,11 +10,14 @@ use borrow.Author.Tests.{le-leb, lt-leb}
 use lib.Dec.{leb}
 use lib.ListN.{getD, set, length}
 use lib.Seq.{getD-set-same, getD-set-other}
-use Rattle.reader.specs.Formula.{Unary, Binary, Formula, constant, name, unary, neg, next, weak, eventually, always, binary, until, release, conj, disj, impl, size, withUnary, withBinary, operators}
-use Rattle.reader.specs.inner.Nodes.{constantCode, nameCode, unaryCode, binaryCode, wordOf}
+use Rattle.reader.specs.Limits.{nodeLimit}
+use Rattle.reader.specs.Formula.{Unary, Binary, neg, next, weak, eventually, always, until, release, conj, disj, impl, withUnary, withBinary}
+use Rattle.reader.specs.Formula.{Formula, constant, name, unary, binary, size, operators}
+use Rattle.reader.specs.inner.Nodes.{constantCode, nameCode, unaryCode, binaryCode, fieldSize, wordOf}
 use Rattle.automaton.specs.Bits.{one}
 use Rattle.automaton.specs.inner.Representation.{Represents}
-use Rattle.automaton.specs.inner.Nodes.{Node, at-constant, at-name, at-unary, at-binary, nodeKind, argumentOf, temporalKind, isTemporalNode, operatorsIn, coordinateOf, Located}
+use Rattle.automaton.specs.inner.Nodes.{Node, at-constant, at-name, at-unary, at-binary, nodeKind, argumentOf}
+use Rattle.automaton.specs.inner.Coordinates.{temporalKind, isTemporalNode, operatorsIn, placeCount, coordinateOf, Located}
 use Rattle.reader.proofs.NodeLaws.{size-pos}
 use Rattle.automaton.proofs.NodeLaws.{kind-field, argument-field, unary-small, binary-small, root-node}
 
@@ -31,13 +34,15 @@ same-or m n =
     (below-or m n)
 
 -- ---- the coordinate in a word
-temporal-word : (K L A w : ℕ) → K < 256 → L < 256 → w ≡ wordOf K L A → isTemporalNode w ≡ temporalKind K
+temporal-word : (K L A w : ℕ) → K < fieldSize → L < fieldSize → w ≡ wordOf K L A → isTemporalNode w ≡ temporalKind K
 unfolding isTemporalNode
 temporal-word K L A w hK hL e = ap temporalKind (ap nodeKind e ∙ kind-field K L A hK hL)
 
-pub coordinate-word : (K L A w : ℕ) → K < 256 → L < 256 → A < 8 → w ≡ wordOf K L A → coordinateOf w ≡ cond (temporalKind K) A 0
+pub coordinate-word : (K L A w : ℕ) → K < fieldSize → L < fieldSize → A < placeCount → w ≡ wordOf K L A → coordinateOf w ≡ cond (temporalKind K) A 0
 unfolding coordinateOf
-coordinate-word K L A w hK hL hA e = ap₂ (λ (b : Bool) (n : ℕ). cond b n 0) (temporal-word K L A w hK hL e) (ap (λ (x : ℕ). x % 8) (ap argumentOf e ∙ argument-field K L A hK hL) ∙ mod-eq-of-lt hA)
+coordinate-word K L A w hK hL hA e =
+    ap₂ (λ (b : Bool) (n : ℕ). cond b n 0) (temporal-word K L A w hK hL e)
+    (ap (λ (x : ℕ). x % placeCount) (ap argumentOf e ∙ argument-field K L A hK hL) ∙ mod-eq-of-lt hA)
 
 -- ---- what an operator adds to a count
 pub unary-adds : (u : Unary) (n : ℕ) → withUnary u n ≡ one (temporalKind (unaryCode u)) + n
@@ -59,19 +64,19 @@ chosen : (t : Bool) (c A : ℕ) → c ≡ cond t A 0 → 0 < c → (c ≡ A) × 
 chosen true c A e h = (e, refl)
 chosen false c A e h = absurd (let z : ⊥ = omega arith in z)
 
-no-coordinate-word : (K L A w : ℕ) → K < 256 → L < 256 → temporalKind K ≡ false → w ≡ wordOf K L A → coordinateOf w ≡ 0
+no-coordinate-word : (K L A w : ℕ) → K < fieldSize → L < fieldSize → temporalKind K ≡ false → w ≡ wordOf K L A → coordinateOf w ≡ 0
 unfolding coordinateOf
-no-coordinate-word K L A w hK hL n e = ap (λ (b : Bool). cond b (argumentOf w % 8) 0) (temporal-word K L A w hK hL e ∙ n)
+no-coordinate-word K L A w hK hL n e = ap (λ (b : Bool). cond b (argumentOf w % placeCount) 0) (temporal-word K L A w hK hL e ∙ n)
 
-coordinate-small : (w : ℕ) → coordinateOf w < 8
+coordinate-small : (w : ℕ) → coordinateOf w < placeCount
 unfolding coordinateOf
 coordinate-small w = pick (isTemporalNode w)
   where
-    pick : (b : Bool) → cond b (argumentOf w % 8) 0 < 8
+    pick : (b : Bool) → cond b (argumentOf w % placeCount) 0 < placeCount
     pick true = omega arith
     pick false = omega arith
 
-constant-plain : (b : Bool) → (constantCode b < 256) × (temporalKind (constantCode b) ≡ false)
+constant-plain : (b : Bool) → (constantCode b < fieldSize) × (temporalKind (constantCode b) ≡ false)
 constant-plain true = (omega arith, refl)
 constant-plain false = (omega arith, refl)
 
@@ -81,11 +86,13 @@ module _ (nodes : List ℕ) where
   at o = coordinateOf (getD nodes o 0)
 
   -- a node's coordinate, if it has one, is its argument
-  own : (i k K L o : ℕ) → K < 256 → L < 256 → k < 8 → getD nodes i 0 ≡ wordOf K L k → o ≡ i → 0 < at o → (at o ≡ k) × (one (temporalKind K) ≡ 1)
+  own : (i k K L o : ℕ) → K < fieldSize → L < fieldSize → k < placeCount → getD nodes i 0 ≡ wordOf K L k → o ≡ i → 0 < at o
+      → (at o ≡ k) × (one (temporalKind K) ≡ 1)
   own i k K L o hK hL hk e q p = chosen (temporalKind K) (at o) k (ap at q ∙ coordinate-word K L k _ hK hL hk e) p
 
   -- the coordinates of a formula's operators lie between its first and the last
-  within : (i k o : ℕ) (φ : Formula) → i < 64 → k + operators φ < 8 → Node nodes i k φ → o ≤ i → i < o + size φ → 0 < at o → (k ≤ at o) × (at o < k + operators φ)
+  within : (i k o : ℕ) (φ : Formula) → i < nodeLimit → k + operators φ < placeCount
+      → Node nodes i k φ → o ≤ i → i < o + size φ → 0 < at o → (k ≤ at o) × (at o < k + operators φ)
   unfolding size operators
   within i k o (constant b) small few (at-constant e) h g p =
       let q : o ≡ i = omega arith in
@@ -115,7 +122,8 @@ module _ (nodes : List ℕ) where
       (eq-or-lt-of-le h)
 
   -- no two operators of a formula have the same coordinate
-  apart : (i k o p : ℕ) (φ : Formula) → i < 64 → k + operators φ < 8 → Node nodes i k φ → o < p → p ≤ i → i < o + size φ → 0 < at o → at o ≡ at p → ⊥
+  apart : (i k o p : ℕ) (φ : Formula) → i < nodeLimit → k + operators φ < placeCount
+      → Node nodes i k φ → o < p → p ≤ i → i < o + size φ → 0 < at o → at o ≡ at p → ⊥
   unfolding size operators
   apart i k o p (constant b) small few (at-constant e) l h g z same = omega arith
   apart i k o p (name j) small few (at-name e) l h g z same = omega arith
@@ -134,7 +142,8 @@ module _ (nodes : List ℕ) where
       let d = binary-adds b (k + operators φ) in
       let c = binary-adds b (operators ψ) in
       let right : (x : ℕ) → j < x → x ≤ i' → 0 < at x → K ≤ at x = λ x f y r. within i' K x ψ (omega arith) (omega arith) t y (omega arith) r .0 in
-      let left : (x : ℕ) → x ≤ j → suc i' < x + size (binary b φ ψ) → 0 < at x → at x < k + operators φ = λ x f y r. within j k x φ (omega arith) (omega arith) s f (omega arith) r .1 in
+      let left : (x : ℕ) → x ≤ j → suc i' < x + size (binary b φ ψ) → 0 < at x → at x < k + operators φ =
+      λ x f y r. within j k x φ (omega arith) (omega arith) s f (omega arith) r .1 in
       ⊎-elim
       (λ (q : p ≡ suc i').
       let w = own (suc i') (k + operators φ) (binaryCode b) (suc j) p (binary-small b) (omega arith) (omega arith) e q (omega arith) in
@@ -163,16 +172,18 @@ module _ (nodes : List ℕ) where
       let ops = r .few-operators in
       ⊎-elim
       (λ (q : o ≡ getD places (at o) 0). sym q)
-      (λ (q : o < getD places (at o) 0). absurd (apart (m - 1) 1 o (getD places (at o) 0) φ (omega arith) (omega arith) (root-node nodes m φ r) q (omega arith) (omega arith) z (sym (w .2))))
+      (λ (q : o < getD places (at o) 0). absurd
+      (apart (m - 1) 1 o (getD places (at o) 0) φ (omega arith) (omega arith) (root-node nodes m φ r) q (omega arith) (omega arith) z (sym (w .2))))
       (eq-or-lt-of-le (w .0))
 
   -- ---- the number of operators
-  counted : (i k n : ℕ) (φ : Formula) → suc i ≡ n + size φ → i < 64 → Node nodes i k φ → operatorsIn nodes (suc i) ≡ operatorsIn nodes n + operators φ
+  counted : (i k n : ℕ) (φ : Formula) → suc i ≡ n + size φ → i < nodeLimit → Node nodes i k φ → operatorsIn nodes (suc i) ≡ operatorsIn nodes n + operators φ
   unfolding size operators operatorsIn
   counted i k n (constant b) e small (at-constant w) =
       let i=n : i ≡ n = omega arith in
       let q : operatorsIn nodes i ≡ operatorsIn nodes n = ap (operatorsIn nodes) i=n in
-      let z : one (isTemporalNode (getD nodes i 0)) ≡ 0 = ap one (temporal-word (constantCode b) 0 k _ (constant-plain b .0) (omega arith) w ∙ constant-plain b .1) in
+      let z : one (isTemporalNode (getD nodes i 0)) ≡ 0 =
+      ap one (temporal-word (constantCode b) 0 k _ (constant-plain b .0) (omega arith) w ∙ constant-plain b .1) in
       omega arith
   counted i k n (name j) e small (at-name w) =
       let i=n : i ≡ n = omega arith in
@@ -180,12 +191,14 @@ module _ (nodes : List ℕ) where
       let z : one (isTemporalNode (getD nodes i 0)) ≡ 0 = ap one (temporal-word nameCode 0 j _ (omega arith) (omega arith) w) in
       omega arith
   counted i k n (unary u φ) e small (at-unary {i = i'} w t) =
-      let z : one (isTemporalNode (getD nodes (suc i') 0)) ≡ one (temporalKind (unaryCode u)) = ap one (temporal-word (unaryCode u) 0 k _ (unary-small u) (omega arith) w) in
+      let z : one (isTemporalNode (getD nodes (suc i') 0)) ≡ one (temporalKind (unaryCode u)) =
+      ap one (temporal-word (unaryCode u) 0 k _ (unary-small u) (omega arith) w) in
       let x = counted i' (withUnary u k) n φ (omega arith) (omega arith) t in
       let y = unary-adds u (operators φ) in
       omega arith
   counted i k n (binary b φ ψ) e small (at-binary {i = i'} {j = j} w l s t) =
-      let z : one (isTemporalNode (getD nodes (suc i') 0)) ≡ one (temporalKind (binaryCode b)) = ap one (temporal-word (binaryCode b) (suc j) (k + operators φ) _ (binary-small b) (omega arith) w) in
+      let z : one (isTemporalNode (getD nodes (suc i') 0)) ≡ one (temporalKind (binaryCode b)) =
+      ap one (temporal-word (binaryCode b) (suc j) (k + operators φ) _ (binary-small b) (omega arith) w) in
       let x = counted j k n φ (omega arith) (omega arith) s in
       let x' = counted i' (withBinary b (k + operators φ)) (suc j) ψ (omega arith) (omega arith) t in
       let y = binary-adds b (operators ψ) in
@@ -205,7 +218,7 @@ module _ (nodes : List ℕ) where
   unfolding Located
   located-none places j o h e = absurd (let z : ⊥ = omega arith in z)
 
-  pub located-more : (places : List ℕ) (m : ℕ) → length places ≡ 8 → Located nodes m places → Located nodes (suc m) (set places (at m) m)
+  pub located-more : (places : List ℕ) (m : ℕ) → length places ≡ placeCount → Located nodes m places → Located nodes (suc m) (set places (at m) m)
   unfolding Located
   located-more places m n loc j o h e =
       let small = coordinate-small (getD nodes m 0) in
@@ -232,10 +245,10 @@ pub kind-temporal : (w : ℕ) → 4 ≤ nodeKind w → nodeKind w ≤ 9 → isTe
 unfolding isTemporalNode
 kind-temporal w h l = ap₂ _&&_ (le-leb 4 (nodeKind w) h) (le-leb (nodeKind w) 9 l)
 
-pub coordinate-temporal : (w : ℕ) → isTemporalNode w ≡ true → coordinateOf w ≡ argumentOf w % 8
+pub coordinate-temporal : (w : ℕ) → isTemporalNode w ≡ true → coordinateOf w ≡ argumentOf w % placeCount
 unfolding coordinateOf
-coordinate-temporal w t = ap (λ (b : Bool). cond b (argumentOf w % 8) 0) t
+coordinate-temporal w t = ap (λ (b : Bool). cond b (argumentOf w % placeCount) 0) t
 
 pub coordinate-other : (w : ℕ) → isTemporalNode w ≡ false → coordinateOf w ≡ 0
 unfolding coordinateOf
-coordinate-other w t = ap (λ (b : Bool). cond b (argumentOf w % 8) 0) t
+coordinate-other w t = ap (λ (b : Bool). cond b (argumentOf w % placeCount) 0) t

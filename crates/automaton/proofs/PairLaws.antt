@@ -39,10 +39,14 @@ module _ (a u v : ℕ) where
   coords-from (constant b) k h = refl
   coords-from (name n) k h = refl
   coords-from (unary neg φ) k h = coords-from φ k h
-  coords-from (unary next φ) k h = ap₂ (λ (x : Bool) (xs : List Bool). x ∷ xs) (value-from φ (suc k) (λ j l. h j (omega arith))) (coords-from φ (suc k) (λ j l. h j (omega arith)))
-  coords-from (unary weak φ) k h = ap₂ (λ (x : Bool) (xs : List Bool). x ∷ xs) (value-from φ (suc k) (λ j l. h j (omega arith))) (coords-from φ (suc k) (λ j l. h j (omega arith)))
-  coords-from (unary eventually φ) k h = ap₂ (λ (x : Bool) (xs : List Bool). x ∷ xs) (value-from (unary eventually φ) k h) (coords-from φ (suc k) (λ j l. h j (omega arith)))
-  coords-from (unary always φ) k h = ap₂ (λ (x : Bool) (xs : List Bool). x ∷ xs) (value-from (unary always φ) k h) (coords-from φ (suc k) (λ j l. h j (omega arith)))
+  coords-from (unary next φ) k h =
+      ap₂ (λ (x : Bool) (xs : List Bool). x ∷ xs) (value-from φ (suc k) (λ j l. h j (omega arith))) (coords-from φ (suc k) (λ j l. h j (omega arith)))
+  coords-from (unary weak φ) k h =
+      ap₂ (λ (x : Bool) (xs : List Bool). x ∷ xs) (value-from φ (suc k) (λ j l. h j (omega arith))) (coords-from φ (suc k) (λ j l. h j (omega arith)))
+  coords-from (unary eventually φ) k h =
+      ap₂ (λ (x : Bool) (xs : List Bool). x ∷ xs) (value-from (unary eventually φ) k h) (coords-from φ (suc k) (λ j l. h j (omega arith)))
+  coords-from (unary always φ) k h =
+      ap₂ (λ (x : Bool) (xs : List Bool). x ∷ xs) (value-from (unary always φ) k h) (coords-from φ (suc k) (λ j l. h j (omega arith)))
   coords-from (binary until φ ψ) k h =
       ap₂ (λ (xs ys : List Bool). xs ++ ys) (coords-from φ k h)
       (ap₂ (λ (x : Bool) (xs : List Bool). x ∷ xs) (value-from (binary until φ ψ) k h) (coords-from ψ (suc (k + operators φ)) (λ j l. h j (omega arith))))

@@ -22,12 +22,13 @@ use Rattle.reader.proofs.RefusalLaws.{something, NotGood, rule-refused}
 use Rattle.reader.proofs.Unambiguous.{some-reading}
 use Rattle.automaton.specs.declared.trial.Trial.{Trial}
 use Rattle.automaton.specs.declared.trial.Trial.the-variants.{Satisfied, Violated, Refused}
-use Rattle.automaton.specs.Alphabet.{badAlphabet, letterCount}
+use Rattle.automaton.specs.Alphabet.{badAlphabet, letterCount, firstOver, afterList}
 use Rattle.automaton.specs.Trace.{Satisfies}
-use Rattle.automaton.specs.Trial.{firstOver, afterList, trialRefusal, trialNumber, trialPlace, Judged, Tried}
+use Rattle.automaton.specs.Trial.{trialRefusal, trialNumber, trialPlace, Judged, Tried}
 
 module _ (i o : ℕ) (text letters : List ℕ) where
-  refused : (ρ : Reading) → ReadingOf i (ruleKind i o) text ρ → (x : Refusal) → isNothing x ≡ false → x ≡ trialRefusal i o text letters ρ → Tried i o text letters (Refused x)
+  refused : (ρ : Reading) → ReadingOf i (ruleKind i o) text ρ → (x : Refusal)
+      → isNothing x ≡ false → x ≡ trialRefusal i o text letters ρ → Tried i o text letters (Refused x)
   refused ρ r x s e =
       record { reading = ρ; read = r; refusal = x; first = e; number = refl; place = refl; refused = λ _. refl; served = λ z. absurd (something x s z) }
 
@@ -44,7 +45,8 @@ module _ (i o : ℕ) (text letters : List ℕ) where
     by-length q = unread TextLength refl (λ ρ. rw (p, q))
 
     module _ (q : tooLong text ≡ false) where
-      pub by-reading : (ρ : Reading) → ReadingOf i (ruleKind i o) text ρ → NotGood ρ → (x : Refusal) → x ≡ afterRule ρ Nothing → Tried i o text letters (Refused x)
+      pub by-reading : (ρ : Reading) → ReadingOf i (ruleKind i o) text ρ → NotGood ρ
+          → (x : Refusal) → x ≡ afterRule ρ Nothing → Tried i o text letters (Refused x)
       unfolding trialRefusal
       by-reading ρ r g x e =
           let f = rule-refused ρ g in
@@ -57,7 +59,8 @@ module _ (i o : ℕ) (text letters : List ℕ) where
             refused (Good m) r (Value k) refl
             (rw (p, q, lt-ltb (firstOver (letterCount i o) letters) (length letters) (subst (λ (j : ℕ). j < length letters) e h)) (ap Value e))
 
-        pub by-list : length letters ≤ k → (φ : Formula) → IsGood i (ruleKind i o) text φ → (b : Bool) → (b ≡ true) ↔ Satisfies φ letters → (out : Trial) → out ≡ cond b Satisfied Violated
+        pub by-list : length letters ≤ k → (φ : Formula) → IsGood i (ruleKind i o) text φ
+            → (b : Bool) → (b ≡ true) ↔ Satisfies φ letters → (out : Trial) → out ≡ cond b Satisfied Violated
             → Tried i o text letters out
         unfolding trialRefusal
         by-list h φ g b w out u =

@@ -45,13 +45,17 @@ module _ (w : List ℕ) (p : ℕ) (h : p < length w) (v : ℕ) where
   value-holds (unary neg φ) k r = T-not (val φ k) (value-holds φ k r)
   value-holds (unary next φ) k r = r .0
   value-holds (unary weak φ) k r = r .0
-  value-holds (unary eventually φ) k r = eventually-step (val φ (suc k)) (bit v k) (value-holds φ (suc k) (r .1)) (r .0) (unroll (λ q. Unit {0}) (Holds φ w) (length w) p h)
-  value-holds (unary always φ) k r = always-step (val φ (suc k)) (bit v k) (value-holds φ (suc k) (r .1)) (r .0) (unroll (λ q. Unit {0}) (λ q. Holds φ w q → ⊥) (length w) p h)
+  value-holds (unary eventually φ) k r =
+      eventually-step (val φ (suc k)) (bit v k) (value-holds φ (suc k) (r .1)) (r .0) (unroll (λ q. Unit {0}) (Holds φ w) (length w) p h)
+  value-holds (unary always φ) k r =
+      always-step (val φ (suc k)) (bit v k) (value-holds φ (suc k) (r .1)) (r .0) (unroll (λ q. Unit {0}) (λ q. Holds φ w q → ⊥) (length w) p h)
   value-holds (binary until φ ψ) k r =
       let m = k + operators φ in
-      until-step (val φ k) (val ψ (suc m)) (bit v m) (value-holds φ k (r .0)) (value-holds ψ (suc m) (r .2)) (r .1) (unroll (Holds φ w) (Holds ψ w) (length w) p h)
+      until-step (val φ k) (val ψ (suc m)) (bit v m) (value-holds φ k (r .0))
+      (value-holds ψ (suc m) (r .2)) (r .1) (unroll (Holds φ w) (Holds ψ w) (length w) p h)
   value-holds (binary release φ ψ) k r =
-      release-step (val φ k) (val ψ (suc (k + operators φ))) (bit v (k + operators φ)) (value-holds φ k (r .0)) (value-holds ψ (suc (k + operators φ)) (r .2)) (r .1)
+      release-step (val φ k) (val ψ (suc (k + operators φ))) (bit v (k + operators φ))
+      (value-holds φ k (r .0)) (value-holds ψ (suc (k + operators φ)) (r .2)) (r .1)
       (unroll (λ q. Holds φ w q → ⊥) (λ q. Holds ψ w q → ⊥) (length w) p h)
   value-holds (binary conj φ ψ) k r = T-and (val φ k) (val ψ (k + operators φ)) (value-holds φ k (r .0)) (value-holds ψ (k + operators φ) (r .1))
   value-holds (binary disj φ ψ) k r = T-or (val φ k) (val ψ (k + operators φ)) (value-holds φ k (r .0)) (value-holds ψ (k + operators φ) (r .1))
@@ -65,14 +69,16 @@ Matches v k bs = (j : ℕ) → j < length bs → bit v (k + j) ≡ getD bs j fal
 
 matches-cons : (v k : ℕ) (b : Bool) (bs : List Bool) → Matches v k (b ∷ bs) → (bit v k ≡ b) × Matches v (suc k) bs
 unfolding Matches
-matches-cons v k b bs m = (ap (bit v) (sym (add-zero k)) ∙ m 0 (zero-lt-suc (length bs)), λ j l. ap (bit v) (suc-add k j ∙ sym (add-suc k j)) ∙ m (suc j) (omega arith))
+matches-cons v k b bs m =
+    (ap (bit v) (sym (add-zero k)) ∙ m 0 (zero-lt-suc (length bs)), λ j l. ap (bit v) (suc-add k j ∙ sym (add-suc k j)) ∙ m (suc j) (omega arith))
 
 -- the second list's coordinates begin after the n of the first
 matches-append : (v k n : ℕ) (bs cs : List Bool) → length bs ≡ n → Matches v k (bs ++ cs) → Matches v k bs × Matches v (k + n) cs
 unfolding Matches
 matches-append v k n bs cs e m = (
   λ j l. m j (rw length-append (omega arith)) ∙ List·getD-append bs cs false j l,
-  subst (λ (i : ℕ). Matches v (k + i) cs) e (λ j l. ap (bit v) (add-assoc k (length bs) j) ∙ m (length bs + j) (rw length-append (omega arith)) ∙ getD-append-add bs cs j false),
+  subst (λ (i : ℕ). Matches v (k + i) cs) e
+      (λ j l. ap (bit v) (add-assoc k (length bs) j) ∙ m (length bs + j) (rw length-append (omega arith)) ∙ getD-append-add bs cs j false),
 )
 
 matches-gather : (bs : List Bool) → Matches (gather bs) 0 bs
@@ -115,7 +121,8 @@ ends-length (binary impl φ ψ) = length-two (ends φ) (ends ψ) (ends-length φ
 -- the coordinates made from right ones are right at the present position
 module _ (w : List ℕ) (p : ℕ) (h : p < length w) (v u : ℕ) where
   -- the first operand's coordinates are φ's, and those after them the list's
-  first-coords : (φ : Formula) (k : ℕ) (bs : List Bool) → Matches u k (coords φ k (getD w p 0) v ++ bs) → Matches u k (coords φ k (getD w p 0) v) × Matches u (k + operators φ) bs
+  first-coords : (φ : Formula) (k : ℕ) (bs : List Bool) → Matches u k (coords φ k (getD w p 0) v ++ bs)
+      → Matches u k (coords φ k (getD w p 0) v) × Matches u (k + operators φ) bs
   first-coords φ k bs m = matches-append u k (operators φ) (coords φ k (getD w p 0) v) bs (coords-length φ k (getD w p 0) v) m
 
   coords-right : (φ : Formula) (k : ℕ) → Right w (suc p) φ k v → Matches u k (coords φ k (getD w p 0) v) → Right w p φ k u
@@ -131,8 +138,10 @@ module _ (w : List ℕ) (p : ℕ) (h : p < length w) (v u : ℕ) where
       let c = matches-cons u k _ _ m in
       let e = by-test (c .0) (value-holds w p h v φ (suc k) (r .1)) in
       ((λ t. inr (e .0 t), ⊎-elim (λ l. absurd (let z : ⊥ = omega arith in z)) (λ x. e .1 x)), coords-right φ (suc k) (r .1) (c .1))
-  coords-right (unary eventually φ) k r m = let c = matches-cons u k _ _ m in (by-test (c .0) (value-holds w p h v (unary eventually φ) k r), coords-right φ (suc k) (r .1) (c .1))
-  coords-right (unary always φ) k r m = let c = matches-cons u k _ _ m in (by-test (c .0) (value-holds w p h v (unary always φ) k r), coords-right φ (suc k) (r .1) (c .1))
+  coords-right (unary eventually φ) k r m =
+      let c = matches-cons u k _ _ m in (by-test (c .0) (value-holds w p h v (unary eventually φ) k r), coords-right φ (suc k) (r .1) (c .1))
+  coords-right (unary always φ) k r m =
+      let c = matches-cons u k _ _ m in (by-test (c .0) (value-holds w p h v (unary always φ) k r), coords-right φ (suc k) (r .1) (c .1))
   coords-right (binary until φ ψ) k r m =
       let d = first-coords φ k _ m in
       let c = matches-cons u (k + operators φ) _ _ (d .1) in
@@ -161,7 +170,8 @@ module _ (w : List ℕ) (p : ℕ) (h : length w ≤ p) (u : ℕ) where
   ends-right (constant b) k m = tt
   ends-right (name n) k m = tt
   ends-right (unary neg φ) k m = ends-right φ k m
-  ends-right (unary next φ) k m = let c = matches-cons u k _ _ m in (never (c .0) (λ x. let l : p < length w = x .0 in omega arith), ends-right φ (suc k) (c .1))
+  ends-right (unary next φ) k m =
+      let c = matches-cons u k _ _ m in (never (c .0) (λ x. let l : p < length w = x .0 in omega arith), ends-right φ (suc k) (c .1))
   ends-right (unary weak φ) k m = let c = matches-cons u k _ _ m in (surely (c .0) (inl h), ends-right φ (suc k) (c .1))
   ends-right (unary eventually φ) k m = let c = matches-cons u k _ _ m in (never (c .0) (no-until _ _ (length w) p h), ends-right φ (suc k) (c .1))
   ends-right (unary always φ) k m = let c = matches-cons u k _ _ m in (surely (c .0) (no-until _ _ (length w) p h), ends-right φ (suc k) (c .1))
@@ -205,4 +215,5 @@ valuation-right φ w (suc d) p e =
     let v = valuation φ (drop (suc p) w) in
     let r = valuation-right φ w d (suc p) (suc-add p d ∙ sym (add-suc p d) ∙ e) in
     let bs = value φ 1 a v ∷ coords φ 1 a v in
-    subst (λ (u : List ℕ). Right w p φ 1 (valuation φ u)) (sym (drop-cons w p 0 h)) (coords-right w p h v (gather bs) φ 1 r (matches-cons _ 0 _ _ (matches-gather bs) .1))
+    subst (λ (u : List ℕ). Right w p φ 1 (valuation φ u)) (sym (drop-cons w p 0 h))
+    (coords-right w p h v (gather bs) φ 1 r (matches-cons _ 0 _ _ (matches-gather bs) .1))

@@ -1,18 +1,19 @@
 -- Numbers as sets of bits: a letter, a valuation and a state are each such a number (specification, "Letters" and "Automaton").
 -- Assumes nothing.
 use Prim.Native.Nat.{ℕ, zero, suc, _+_, _*_, _/_, _%_, _^_}
-use mathlib.Core.Bool.{Bool, true, false}
+use mathlib.Core.Bool.{Bool, false}
 use mathlib.Core.List.{List}
 use lib.Dec.{eqb}
 use lib.ListN.{length, getD}
+pub use Rattle.machine.specs.Automaton.{one}
+
+-- the bits of a machine's word
+abbrev pub wordBits : ℕ
+wordBits = 64
 
 -- bit k of x
 unfoldable pub bit : ℕ → ℕ → Bool
 bit x k = eqb (x / 2 ^ k % 2) 1
-
-abbrev pub one : Bool → ℕ
-one true = 1
-one false = 0
 
 -- the number whose bit k is f k for each k below n, and whose other bits are 0
 unfoldable pub ofBits : (ℕ → Bool) → ℕ → ℕ

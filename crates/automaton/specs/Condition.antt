@@ -4,11 +4,12 @@
 use Prim.Native.Nat.{ℕ, _^_, _<_}
 use mathlib.Core.Path.{_≡_}
 use mathlib.Core.Bool.{Bool, true, cond}
-use mathlib.Core.List.{List, [], _∷_}
+use mathlib.Core.List.{[], _∷_}
 use mathlib.Core.Logic.{_↔_}
 use Rattle.reader.specs.declared.reading.Reading.{Reading}
 use Rattle.reader.specs.declared.refusal.Refusal.{Refusal}
 use Rattle.reader.specs.declared.refusal.Refusal.the-variants.{Nothing, Alphabet, TextLength}
+use Rattle.reader.specs.Text.{Text}
 use Rattle.reader.specs.Limits.{tooLong}
 use Rattle.reader.specs.Formula.{Formula}
 use Rattle.reader.specs.Marks.{conditionKind}
@@ -22,16 +23,16 @@ use Rattle.automaton.specs.Trace.{Satisfies}
 use Rattle.automaton.specs.Valuation.{value}
 
 -- the mask of a condition: bit x says whether input number x has it
-unfoldable pub maskOf : Formula → ℕ → ℕ
+unfoldable pub maskOf : (κ : Formula) (i : ℕ) → ℕ
 unfolding value ofBits
 maskOf κ i = ofBits (λ x. value κ 1 x 0) (2 ^ i)
 
 -- a mask judges each input number as the condition does on that input alone
-abbrev pub Judges : Formula → ℕ → ℕ → Type 0
+abbrev pub Judges : (κ : Formula) (i mask : ℕ) → Type 0
 Judges κ i mask = (x : ℕ) → x < 2 ^ i → (bit mask x ≡ true) ↔ Satisfies κ (x ∷ [])
 
 -- the refusal that comes first, for a text with the reading ρ
-unfoldable pub conditionRefusal : ℕ → List ℕ → Reading → Refusal
+unfoldable pub conditionRefusal : (i : ℕ) (text : Text) (ρ : Reading) → Refusal
 conditionRefusal i text ρ = cond (badAlphabet i 0) Alphabet (cond (tooLong text) TextLength (afterCondition ρ Nothing))
 
 -- the specification's number and place of every answer: none where the call is served
@@ -44,14 +45,14 @@ assumptionPlace (Mask m) = 0
 assumptionPlace (Refused x) = placeOf x
 
 -- the answer of a served call
-pub record Masked (i : ℕ) (text : List ℕ) (r : Assumption) : Type 0 where
+pub record Masked (i : ℕ) (text : Text) (r : Assumption) : Type 0 where
   pub formula : Formula
   pub good : IsGood i (conditionKind i) text formula
   pub answer : r ≡ Mask (maskOf formula i)
   pub judges : Judges formula i (maskOf formula i)
 
 -- the whole promise
-pub record Conditioned (i : ℕ) (text : List ℕ) (r : Assumption) : Type 0 where
+pub record Conditioned (i : ℕ) (text : Text) (r : Assumption) : Type 0 where
   pub reading : Reading
   pub read : ReadingOf i (conditionKind i) text reading
   pub refusal : Refusal

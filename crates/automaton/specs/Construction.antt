@@ -20,18 +20,19 @@ use Rattle.automaton.specs.declared.construct.Construction.the-variants.
 use Rattle.automaton.specs.Limits.{stateLimit}
 use Rattle.automaton.specs.Alphabet.{badAlphabet, letterCount}
 use Rattle.automaton.specs.Discovery.{stateCount}
-use Rattle.automaton.specs.Automaton.{Automaton, TooManyStates, Cleared}
+use Rattle.automaton.specs.Automaton.{Automaton, TooManyStates}
+use Rattle.automaton.specs.Buffer.{Cleared}
 
 -- n is the number of the rule's states, if the text is a rule within its limits
-abbrev pub CountOf : ℕ → ℕ → List ℕ → ℕ → Type 0
+abbrev pub CountOf : (i o : ℕ) (text : List ℕ) (n : ℕ) → Type 0
 CountOf i o text n = (φ : Formula) → IsGood i (ruleKind i o) text φ → n ≡ stateCount φ (letterCount i o)
 
--- the buffers are too short for 128 states
-abbrev pub shortAutomaton : ℕ → List ℕ → List ℕ → Bool
+-- the buffers are too short for as many states as the limit
+abbrev pub shortAutomaton : (L : ℕ) (transitions accepting : List ℕ) → Bool
 shortAutomaton L transitions accepting = ltb (length transitions) (stateLimit * L) || ltb (length accepting) stateLimit
 
 -- the refusal that comes first, for a text with the reading ρ whose rule has n states
-unfoldable pub constructRefusal : ℕ → ℕ → List ℕ → List ℕ → List ℕ → Reading → ℕ → Refusal
+unfoldable pub constructRefusal : (i o : ℕ) (text transitions accepting : List ℕ) (ρ : Reading) (n : ℕ) → Refusal
 constructRefusal i o text transitions accepting ρ n =
     cond (badAlphabet i o) Alphabet
     (cond (tooLong text) TextLength
@@ -48,7 +49,7 @@ abbrev pub constructionPlace : Construction → ℕ
 constructionPlace (Built n) = 0
 constructionPlace (Refused x) = placeOf x
 
--- the buffers of a served call: the automaton of the text's formula with n states, 0 up to 128 states' share, and beyond as they were
+-- the buffers of a served call: the automaton of the text's formula with n states, 0 up to the share of as many states as the limit, and beyond as they were
 pub record ConstructionServed (i o : ℕ) (text : List ℕ) (n : ℕ) (transitions accepting transitions′ accepting′ : List ℕ) : Type 0 where
   pub formula : Formula
   pub good : IsGood i (ruleKind i o) text formula

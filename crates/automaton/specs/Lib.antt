@@ -1,11 +1,12 @@
+pub mod Limits
 pub mod Alphabet
 pub mod Bits
 pub mod Trace
-pub mod Limits
 pub mod Valuation
 pub mod State
 pub mod Discovery
 pub mod Automaton
+pub mod Buffer
 pub mod Condition
 pub mod Trial
 pub mod Construction

@@ -1,16 +1,15 @@
 -- The trial call (specification, "Calls"): whether a list of letters satisfies a rule. Its answer is the declared type `Trial`.
 -- Its order of refusals is 1, 2, 4, 5, 6, 13, the last with the index of the first letter that is too large.
 -- Assumes nothing.
-use Prim.Native.Nat.{ℕ, suc}
+use Prim.Native.Nat.{ℕ}
 use mathlib.Core.Path.{_≡_}
 use mathlib.Core.Bool.{Bool, true, cond}
-use mathlib.Core.List.{List, [], _∷_}
 use mathlib.Core.Logic.{_↔_}
-use lib.Dec.{ltb, leb}
-use lib.ListN.{length}
 use Rattle.reader.specs.declared.reading.Reading.{Reading}
 use Rattle.reader.specs.declared.refusal.Refusal.{Refusal}
 use Rattle.reader.specs.declared.refusal.Refusal.the-variants.{Nothing, Alphabet, TextLength, Value}
+use Rattle.machine.specs.Letters.{Trace}
+use Rattle.reader.specs.Text.{Text}
 use Rattle.reader.specs.Limits.{tooLong}
 use Rattle.reader.specs.Formula.{Formula}
 use Rattle.reader.specs.Marks.{ruleKind}
@@ -18,20 +17,11 @@ use Rattle.reader.specs.Reading.{ReadingOf, IsGood}
 use Rattle.reader.specs.Refusal.{numberOf, placeOf, afterRule}
 use Rattle.automaton.specs.declared.trial.Trial.{Trial}
 use Rattle.automaton.specs.declared.trial.Trial.the-variants.{Satisfied, Violated, Refused}
-use Rattle.automaton.specs.Alphabet.{badAlphabet, letterCount}
+use Rattle.automaton.specs.Alphabet.{badAlphabet, letterCount, firstOver, afterList}
 use Rattle.automaton.specs.Trace.{Satisfies}
 
--- the index of the first number of a list that is `bound` or more, or the list's length
-unfoldable pub firstOver : ℕ → List ℕ → ℕ
-firstOver bound [] = 0
-firstOver bound (a ∷ w) = cond (leb bound a) 0 (suc (firstOver bound w))
-
--- the refusal for the first number of a list that is too large
-abbrev pub afterList : ℕ → List ℕ → (ℕ → Refusal) → Refusal → Refusal
-afterList bound w refusal later = cond (ltb (firstOver bound w) (length w)) (refusal (firstOver bound w)) later
-
 -- the refusal that comes first, for a text with the reading ρ
-unfoldable pub trialRefusal : ℕ → ℕ → List ℕ → List ℕ → Reading → Refusal
+unfoldable pub trialRefusal : (i o : ℕ) (text : Text) (letters : Trace) (ρ : Reading) → Refusal
 unfolding firstOver
 trialRefusal i o text letters ρ =
     cond (badAlphabet i o) Alphabet
@@ -51,7 +41,7 @@ trialPlace Violated = 0
 trialPlace (Refused x) = placeOf x
 
 -- the answer of a served call
-pub record Judged (i o : ℕ) (text letters : List ℕ) (r : Trial) : Type 0 where
+pub record Judged (i o : ℕ) (text : Text) (letters : Trace) (r : Trial) : Type 0 where
   pub formula : Formula
   pub good : IsGood i (ruleKind i o) text formula
   pub satisfied : Bool
@@ -59,7 +49,7 @@ pub record Judged (i o : ℕ) (text letters : List ℕ) (r : Trial) : Type 0 whe
   pub right : (satisfied ≡ true) ↔ Satisfies formula letters
 
 -- the whole promise: number and place, and where the call is served whether the list satisfies the rule
-pub record Tried (i o : ℕ) (text letters : List ℕ) (r : Trial) : Type 0 where
+pub record Tried (i o : ℕ) (text : Text) (letters : Trace) (r : Trial) : Type 0 where
   pub reading : Reading
   pub read : ReadingOf i (ruleKind i o) text reading
   pub refusal : Refusal

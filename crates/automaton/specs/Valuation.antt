@@ -5,11 +5,16 @@
 use Prim.Native.Nat.{ℕ, suc, _+_, _^_}
 use mathlib.Core.Bool.{Bool, true, false, not, _&&_, _||_}
 use mathlib.Core.List.{List, [], _∷_, _++_}
+use Rattle.machine.specs.Letters.{Letter}
 use Rattle.reader.specs.Formula.{Formula, constant, name, unary, neg, next, weak, eventually, always, binary, until, release, conj, disj, impl, operators}
 use Rattle.automaton.specs.Bits.{bit, gather}
 
+-- a valuation, as the number whose bits are its coordinates
+abbrev pub Valuation : Type 0
+Valuation = ℕ
+
 -- a formula's value, given the letter a and the valuation v of the next position
-unfoldable pub value : Formula → ℕ → ℕ → ℕ → Bool
+unfoldable pub value : Formula → (k : ℕ) (a : Letter) (v : Valuation) → Bool
 value (constant b) k a v = b
 value (name n) k a v = bit a n
 value (unary neg φ) k a v = not (value φ k a v)
@@ -24,7 +29,7 @@ value (binary disj φ ψ) k a v = value φ k a v || value ψ (k + operators φ) 
 value (binary impl φ ψ) k a v = not (value φ k a v) || value ψ (k + operators φ) a v
 
 -- what the coordinates from k on say at the present position: for X and N the operand's value, for the others the operator's own
-unfoldable pub coords : Formula → ℕ → ℕ → ℕ → List Bool
+unfoldable pub coords : Formula → (k : ℕ) (a : Letter) (v : Valuation) → List Bool
 unfolding value
 coords (constant b) k a v = []
 coords (name n) k a v = []
@@ -55,12 +60,12 @@ ends (binary disj φ ψ) = ends φ ++ ends ψ
 ends (binary impl φ ψ) = ends φ ++ ends ψ
 
 -- the valuation of the present position, from its letter and the valuation of the next
-unfoldable pub present : Formula → ℕ → ℕ → ℕ
+unfoldable pub present : (φ : Formula) (a : Letter) (v : Valuation) → Valuation
 unfolding value coords gather
 present φ a v = gather (value φ 1 a v ∷ coords φ 1 a v)
 
 -- the end valuation, whose coordinate 0 is 0
-unfoldable pub endVector : Formula → ℕ
+unfoldable pub endVector : Formula → Valuation
 unfolding ends gather
 endVector φ = gather (false ∷ ends φ)
 

@@ -2,5 +2,7 @@
 -- Assumes nothing.
 pub mod Representation
 pub mod Nodes
+pub mod Evaluation
+pub mod Coordinates
 pub mod Fold
 pub mod Exploration

@@ -1,26 +1,30 @@
 // The numbers of an alphabet, and the tests that the calls share.
 ghost use mathlib.Core.Path.{_≡_};
 ghost use mathlib.Core.Bool.{cond};
-ghost use Prim.Native.Nat.{_^_};
-ghost use lib.Dec.{ltb};
-ghost use Rattle.automaton.specs.Alphabet.{badAlphabet};
-ghost use Rattle.automaton.specs.Trial.{firstOver};
+ghost use Prim.Native.Nat.{_*_, _^_};
+ghost use lib.Dec.{leb};
+ghost use Rattle.automaton.specs.Limits.{nameLimit};
+ghost use Rattle.automaton.specs.Alphabet.{badAlphabet, firstOver};
+use crate::limits::NAME_LIMIT;
 
-// Whether i or o is above 4.
+// Whether i or o is above NAME_LIMIT.
 pub fn bad_alphabet(i: usize, o: usize) -> bool
     ensures { λ r. ⌜ r ≡ badAlphabet i o ⌝ }
 {
-    if 4 < i {
+    if NAME_LIMIT < i {
         return true;
     }
-    4 < o
+    NAME_LIMIT < o
 }
 
-// 2 to the power k, for a k up to 8; 0 for any other.
+// Inputs and outputs together, at most.
+const NAMES: usize = 2 * NAME_LIMIT;
+
+// 2 to the power k, for a k up to NAMES; 0 for any other.
 pub fn power(k: usize) -> usize
-    ensures { λ r. ⌜ r ≡ cond (ltb k 9) (2 ^ k) 0 ⌝ }
+    ensures { λ r. ⌜ r ≡ cond (leb k (2 * nameLimit)) (2 ^ k) 0 ⌝ }
 {
-    if k < 9 {
+    if k <= NAMES {
         return 1 << k;
     }
     0

@@ -3,11 +3,13 @@ ghost use Rattle.automaton.specs.Condition.{Conditioned};
 use crate::alphabet::bad_alphabet;
 use crate::alphabet::power;
 use crate::mask::condition_mask;
+use reader::limits::NODE_LIMIT;
 use reader::reading::Reading;
 use reader::reading::read;
 use reader::reading::too_long;
 use reader::refusal::Refusal;
-use reader::refusal::condition_refusal;
+use reader::refusal::Subject;
+use reader::refusal::text_refusal;
 
 // The answer: the mask, bit x for input number x, or a refusal.
 pub enum Assumption {
@@ -25,10 +27,10 @@ pub fn read_condition(i: usize, text: &[u8]) -> Assumption
     if too_long(text) {
         return Assumption::Refused(Refusal::TextLength);
     }
-    let mut nodes = [0usize; 64];
+    let mut nodes = [0usize; NODE_LIMIT];
     let reading = read(text, i as u8, 0, false, &mut nodes);
     let Reading::Good(count) = reading else {
-        return Assumption::Refused(condition_refusal(reading));
+        return Assumption::Refused(text_refusal(Subject::Condition, reading));
     };
     Assumption::Mask(condition_mask(&nodes, count, power(i)))
 }

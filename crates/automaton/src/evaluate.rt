@@ -1,11 +1,17 @@
-// The value of each node of a formula, for 64 valuations at once.
+// The value of each node of a formula, for all valuations at once.
 ghost use mathlib.Core.Path.{_≡_};
 ghost use Prim.Native.Nat.{_-_, _≤_};
 ghost use lib.ListN.{getD};
+ghost use Rattle.reader.specs.Limits.{nodeLimit};
+ghost use Rattle.automaton.specs.Limits.{vectorLimit};
 ghost use Rattle.automaton.specs.Bits.{bit, ofBits};
-ghost use Rattle.automaton.specs.inner.Nodes.{nodeWord, Evaluated};
+ghost use Rattle.automaton.specs.inner.Evaluation.{nodeWord, Evaluated};
+use crate::bits::WORD_BITS;
 use crate::bits::test_bit;
 use crate::coordinates::coordinate;
+use crate::limits::ARGUMENT_UNIT;
+use reader::limits::FIELD_SIZE;
+use reader::limits::NODE_LIMIT;
 
 // All valuations.
 const ALL: u64 = 0xFFFF_FFFF_FFFF_FFFF;
@@ -26,9 +32,9 @@ pub(crate) fn word_at(words: &[u64], k: usize) -> u64
 
 // All valuations where bit `argument` of the letter is 1, else none.
 fn name_word(letter: u64, argument: usize) -> u64
-    ensures { λ r. ⌜ r ≡ ofBits (λ v. bit letter argument) 64 ⌝ }
+    ensures { λ r. ⌜ r ≡ ofBits (λ v. bit letter argument) vectorLimit ⌝ }
 {
-    if argument < 64 {
+    if argument < WORD_BITS {
         let b = test_bit(letter, argument as u64);
         if b == 1 {
             return ALL;
@@ -38,7 +44,7 @@ fn name_word(letter: u64, argument: usize) -> u64
     0
 }
 
-// A node's value for each of the 64 valuations, from its operands'.
+// A node's value for each valuation, from its operands'.
 fn node_word(kind: usize, argument: usize, letter: u64, left: u64, right: u64) -> u64
     ensures { λ r. ⌜ r ≡ nodeWord kind argument letter left right ⌝ }
 {
@@ -60,18 +66,18 @@ fn node_word(kind: usize, argument: usize, letter: u64, left: u64, right: u64) -
     }
 }
 
-// Each node's value for each of the 64 valuations, given the letter.
-pub(crate) fn evaluate(nodes: &[usize; 64], count: usize, letter: u64) -> [u64; 64]
-    requires { ⌜ count ≤ 64 ⌝ }
+// Each node's value for each valuation, given the letter.
+pub(crate) fn evaluate(nodes: &[usize; NODE_LIMIT], count: usize, letter: u64) -> [u64; NODE_LIMIT]
+    requires { ⌜ count ≤ nodeLimit ⌝ }
     ensures { λ r. ⌜ Evaluated (now (nodes .entry)) letter r count ⌝ }
 {
-    let mut words = [0u64; 64];
+    let mut words = [0u64; NODE_LIMIT];
     let mut i: usize = 0;
     while i < count {
         let node = nodes[i];
-        let left = word_at(&words, less_one(node / 256 % 256));
+        let left = word_at(&words, less_one(node / FIELD_SIZE % FIELD_SIZE));
         let right = word_at(&words, less_one(i));
-        words[i] = node_word(node % 256, node / 65536, letter, left, right);
+        words[i] = node_word(node % FIELD_SIZE, node / ARGUMENT_UNIT, letter, left, right);
         i += 1;
     }
     words

@@ -1,36 +1,38 @@
 // The states of a formula's automaton, in the order of their discovery.
 ghost use mathlib.Core.Path.{_≡_};
 ghost use Prim.Native.Nat.{ℕ, suc, _+_, _*_, _/_, _≤_, _<_, _^_};
-ghost use lib.ListN.{length, getD, take};
+ghost use lib.ListN.{length, getD};
+ghost use Rattle.machine.specs.inner.Exploration.{Place};
 ghost use Rattle.reader.specs.Formula.{Formula, operators};
-ghost use Rattle.automaton.specs.Limits.{stateLimit};
+ghost use Rattle.automaton.specs.Limits.{stateLimit, letterLimit, coordinateLimit, vectorLimit};
 ghost use Rattle.automaton.specs.Bits.{bit, one};
 ghost use Rattle.automaton.specs.Valuation.{endVector};
 ghost use Rattle.automaton.specs.State.{start, after};
-ghost use Rattle.automaton.specs.Discovery.{position};
 ghost use Rattle.automaton.specs.inner.Representation.{Tabulates, Twins};
-ghost use Rattle.automaton.specs.Automaton.{Cleared};
-ghost use Rattle.automaton.specs.inner.Exploration.{Progress, Explored, StateExplored, BuiltAutomaton};
+ghost use Rattle.automaton.specs.Buffer.{Cleared};
+ghost use Rattle.automaton.specs.inner.Exploration.{wordAt, Progress, Explored, StateExplored, BuiltAutomaton};
 use crate::bits::set_pair;
 use crate::bits::test_bit;
+use crate::bytes::wide;
 use crate::coordinates::start_word;
+use crate::limits::ENTRY_LIMIT;
+use crate::limits::LETTER_LIMIT;
+use crate::limits::PAIR_LIMIT;
+use crate::limits::STATE_LIMIT;
+use crate::limits::TABLE_SIZE;
 use crate::twins::find_twins;
-use crate::twins::wide;
-
-// The number of states that are served.
-const STATE_LIMIT: usize = 128;
 
 // The state after a letter: it holds 2 * k and 2 * k + 1 where the old one holds the valuation that the table has for the letter and k.
-fn successor(table: &[u8; 8192], letter: usize, vectors: u64, state: u64) -> u64
-    requires { ⌜ (letter < 256) × (vectors ≤ 64) ⌝ }
+fn successor(table: &[u8; TABLE_SIZE], letter: usize, vectors: u64, state: u64) -> u64
+    requires { ⌜ (letter < letterLimit) × (vectors ≤ vectorLimit) ⌝ }
     ensures { λ r. ⌜ ((φ : Formula) (L : ℕ) → Tabulates φ L (now (table .entry)) → letter < L → vectors ≡ 2 ^ suc (operators φ) → r ≡ after φ state letter) ⌝ }
 {
-    let row = letter * 32;
+    let row = letter * PAIR_LIMIT;
     let pairs = vectors / 2;
     let mut r: u64 = 0;
     let mut k: u64 = 0;
     while k < pairs {
-        let u = table[row + k as usize] % 64;
+        let u = table[row + k as usize] % ENTRY_LIMIT;
         let b = test_bit(state, u as u64);
         r = set_pair(r, k, b);
         k += 1;
@@ -41,7 +43,7 @@ fn successor(table: &[u8; 8192], letter: usize, vectors: u64, state: u64) -> u64
 // The first position of x among the first n states, or n where it is not there.
 fn position_of(states: &[u64], n: usize, x: u64) -> usize
     requires { ⌜ n ≤ length (now states) ⌝ }
-    ensures { λ r. ⌜ r ≡ position x (take n (now (states .entry))) ⌝ }
+    ensures { λ r. ⌜ Place (wordAt (now (states .entry))) n x r ⌝ }
 {
     let mut i: usize = 0;
     while i < n {
@@ -67,8 +69,9 @@ fn clear(buffer: &mut [u8], n: usize)
 
 // Sets the flag of each of the first n states to whether it holds the end valuation.
 fn mark_states(list: &[u64], n: usize, end: u64, accepting: &mut [u8])
-    requires { ⌜ (n ≤ length (now list)) × (n ≤ length (now accepting)) × (end < 64) ⌝ }
-    ensures { λ r. ⌜ ((s : ℕ) → s < n → getD (now (accepting .exit)) s 0 ≡ one (bit (getD (now (list .entry)) s 0) end)) × ((s : ℕ) → n ≤ s → getD (now (accepting .exit)) s 0 ≡ getD (now (accepting .entry)) s 0) ⌝ }
+    requires { ⌜ (n ≤ length (now list)) × (n ≤ length (now accepting)) × (end < vectorLimit) ⌝ }
+    ensures { λ r. ⌜ ((s : ℕ) → s < n → getD (now (accepting .exit)) s 0 ≡ one (bit (getD (now (list .entry)) s 0) end))
+        × ((s : ℕ) → n ≤ s → getD (now (accepting .exit)) s 0 ≡ getD (now (accepting .entry)) s 0) ⌝ }
 {
     let mut s: usize = 0;
     while s < n {
@@ -79,10 +82,10 @@ fn mark_states(list: &[u64], n: usize, end: u64, accepting: &mut [u8])
 }
 
 // Looks at every letter of state s: the states that it finds go to the end of the list, and where the letters lead into transitions. A
-// letter with an earlier twin leads where the twin does. Returns the number of states, or 129 where there are more than 128.
+// letter with an earlier twin leads where the twin does. Returns the number of states, or one more than STATE_LIMIT where there are more.
 fn explore_state(
-    table: &[u8; 8192],
-    twins: &[u8; 256],
+    table: &[u8; TABLE_SIZE],
+    twins: &[u8; LETTER_LIMIT],
     vectors: u64,
     letters: usize,
     s: usize,
@@ -90,9 +93,13 @@ fn explore_state(
     transitions: &mut [u8],
     list: &mut [u64],
 ) -> usize
-    requires { ⌜ (vectors ≤ 64) × (letters ≤ 256) × Twins letters (vectors / 2) (now table) (now twins) × (s < count) × (count ≤ stateLimit) × (stateLimit * letters ≤ length (now transitions)) × (stateLimit ≤ length (now list)) ⌝ }
-    ensures explored { λ r. ⌜ ((φ : Formula) → Tabulates φ letters (now (table .entry)) → vectors ≡ 2 ^ suc (operators φ) → Progress φ letters count (s * letters) (now (list .entry)) (now (transitions .entry)) → StateExplored φ letters s r (now (list .exit)) (now (transitions .exit))) ⌝ }
-    ensures kept { λ r. ⌜ (count ≤ r) × (r ≤ suc stateLimit) × ((u : ℕ) → s * letters + letters ≤ u → getD (now (transitions .exit)) u 0 ≡ getD (now (transitions .entry)) u 0) ⌝ }
+    requires { ⌜ (vectors ≤ vectorLimit) × (letters ≤ letterLimit) × Twins letters (vectors / 2) (now table) (now twins)
+        × (s < count) × (count ≤ stateLimit) × (stateLimit * letters ≤ length (now transitions)) × (stateLimit ≤ length (now list)) ⌝ }
+    ensures explored { λ r. ⌜ ((φ : Formula) → Tabulates φ letters (now (table .entry)) → vectors ≡ 2 ^ suc (operators φ)
+        → Progress φ letters count (s * letters) (now (list .entry)) (now (transitions .entry))
+        → StateExplored φ letters s r (now (list .exit)) (now (transitions .exit))) ⌝ }
+    ensures kept { λ r. ⌜ (count ≤ r) × (r ≤ suc stateLimit)
+        × ((u : ℕ) → s * letters + letters ≤ u → getD (now (transitions .exit)) u 0 ≡ getD (now (transitions .entry)) u 0) ⌝ }
 {
     let row = s * letters;
     let mut n = count;
@@ -119,20 +126,24 @@ fn explore_state(
     n
 }
 
-// Finds the states in the order of discovery: they go into list, and where they lead into transitions. Returns their number, or 129
-// where there are more than 128.
+// Finds the states in the order of discovery: they go into list, and where they lead into transitions. Returns their number, or one
+// more than STATE_LIMIT where there are more.
 fn explore(
-    table: &[u8; 8192],
-    twins: &[u8; 256],
+    table: &[u8; TABLE_SIZE],
+    twins: &[u8; LETTER_LIMIT],
     vectors: u64,
     letters: usize,
     first: u64,
     transitions: &mut [u8],
     list: &mut [u64],
 ) -> usize
-    requires { ⌜ (vectors ≤ 64) × (0 < letters) × (letters ≤ 256) × Twins letters (vectors / 2) (now table) (now twins) × (stateLimit * letters ≤ length (now transitions)) × (stateLimit ≤ length (now list)) ⌝ }
-    ensures explored { λ r. ⌜ ((φ : Formula) → Tabulates φ letters (now (table .entry)) → vectors ≡ 2 ^ suc (operators φ) → first ≡ start φ → Explored φ letters r (now (list .exit)) (now (transitions .exit))) ⌝ }
-    ensures kept { λ r. ⌜ (r ≤ suc stateLimit) × ((u : ℕ) → stateLimit * letters ≤ u → getD (now (transitions .exit)) u 0 ≡ getD (now (transitions .entry)) u 0) × (r ≤ stateLimit → (u : ℕ) → r * letters ≤ u → getD (now (transitions .exit)) u 0 ≡ getD (now (transitions .entry)) u 0) ⌝ }
+    requires { ⌜ (vectors ≤ vectorLimit) × (0 < letters) × (letters ≤ letterLimit) × Twins letters (vectors / 2) (now table) (now twins)
+        × (stateLimit * letters ≤ length (now transitions)) × (stateLimit ≤ length (now list)) ⌝ }
+    ensures explored { λ r. ⌜ ((φ : Formula) → Tabulates φ letters (now (table .entry)) → vectors ≡ 2 ^ suc (operators φ) → first ≡ start φ
+        → Explored φ letters r (now (list .exit)) (now (transitions .exit))) ⌝ }
+    ensures kept { λ r. ⌜ (r ≤ suc stateLimit)
+        × ((u : ℕ) → stateLimit * letters ≤ u → getD (now (transitions .exit)) u 0 ≡ getD (now (transitions .entry)) u 0)
+        × (r ≤ stateLimit → (u : ℕ) → r * letters ≤ u → getD (now (transitions .exit)) u 0 ≡ getD (now (transitions .entry)) u 0) ⌝ }
 {
     list[0] = first;
     let mut n: usize = 1;
@@ -148,18 +159,20 @@ fn explore(
     n
 }
 
-// The automaton of the formula whose valuations the table holds: its transitions and accepting flags, and the number of its states; 129
-// where they are more than 128.
+// The automaton of the formula whose valuations the table holds: its transitions and accepting flags, and the number of its states; one
+// more than STATE_LIMIT where they are more.
 pub(crate) fn build(
-    table: &[u8; 8192],
+    table: &[u8; TABLE_SIZE],
     width: u64,
     end: u64,
     letters: usize,
     transitions: &mut [u8],
     accepting: &mut [u8],
 ) -> usize
-    requires { ⌜ (1 ≤ width) × (width ≤ 6) × (end < 64) × (0 < letters) × (letters ≤ 256) × (stateLimit * letters ≤ length (now transitions)) × (stateLimit ≤ length (now accepting)) ⌝ }
-    ensures built { λ r. ⌜ ((φ : Formula) → Tabulates φ letters (now (table .entry)) → width ≡ suc (operators φ) → end ≡ endVector φ → BuiltAutomaton φ letters r (now (transitions .entry)) (now (accepting .entry)) (now (transitions .exit)) (now (accepting .exit))) ⌝ }
+    requires { ⌜ (1 ≤ width) × (width ≤ coordinateLimit) × (end < vectorLimit) × (0 < letters) × (letters ≤ letterLimit)
+        × (stateLimit * letters ≤ length (now transitions)) × (stateLimit ≤ length (now accepting)) ⌝ }
+    ensures built { λ r. ⌜ ((φ : Formula) → Tabulates φ letters (now (table .entry)) → width ≡ suc (operators φ) → end ≡ endVector φ
+        → BuiltAutomaton φ letters r (now (transitions .entry)) (now (accepting .entry)) (now (transitions .exit)) (now (accepting .exit))) ⌝ }
     ensures bounded { λ r. ⌜ r ≤ suc stateLimit ⌝ }
 {
     let vectors = 1u64 << width;

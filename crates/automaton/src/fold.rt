@@ -1,13 +1,16 @@
 // Satisfaction of a formula by a list of letters.
 ghost use mathlib.Core.Path.{_≡_};
 ghost use Prim.Native.Nat.{suc, _≤_};
+ghost use Rattle.reader.specs.Limits.{nodeLimit};
 ghost use Rattle.reader.specs.Formula.{Formula, operators};
+ghost use Rattle.automaton.specs.Limits.{coordinateLimit};
 ghost use Rattle.automaton.specs.Bits.{bit};
 ghost use Rattle.automaton.specs.inner.Representation.{Represents};
 ghost use Rattle.automaton.specs.inner.Fold.{valuation};
 use crate::bits::test_bit;
 use crate::valuation::end_vector;
 use crate::valuation::present_vector;
+use reader::limits::NODE_LIMIT;
 
 // A byte as a letter.
 fn letter_of(b: u8) -> u64
@@ -17,8 +20,13 @@ fn letter_of(b: u8) -> u64
 }
 
 // Coordinate 0 of the valuation that the letters make from the end valuation, the last letter first.
-pub(crate) fn satisfied(nodes: &[usize; 64], count: usize, width: u64, letters: &[u8]) -> bool
-    requires { ⌜ (count ≤ 64) × (width ≤ 6) ⌝ }
+pub(crate) fn satisfied(
+    nodes: &[usize; NODE_LIMIT],
+    count: usize,
+    width: u64,
+    letters: &[u8],
+) -> bool
+    requires { ⌜ (count ≤ nodeLimit) × (width ≤ coordinateLimit) ⌝ }
     ensures { λ r. ⌜ ((φ : Formula) → Represents (now (nodes .entry)) count φ → width ≡ suc (operators φ) → r ≡ bit (valuation φ (now (letters .entry))) 0) ⌝ }
 {
     let mut v = end_vector(nodes, count, width);

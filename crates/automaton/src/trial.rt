@@ -5,11 +5,13 @@ use crate::alphabet::first_over;
 use crate::alphabet::power;
 use crate::fold::satisfied;
 use crate::operators::operator_count;
+use reader::limits::NODE_LIMIT;
 use reader::reading::Reading;
 use reader::reading::read;
 use reader::reading::too_long;
 use reader::refusal::Refusal;
-use reader::refusal::rule_refusal;
+use reader::refusal::Subject;
+use reader::refusal::text_refusal;
 
 // The answer: whether the list satisfies the rule, or a refusal.
 pub enum Trial {
@@ -28,10 +30,10 @@ pub fn try_rule(i: usize, o: usize, text: &[u8], letters: &[u8]) -> Trial
     if too_long(text) {
         return Trial::Refused(Refusal::TextLength);
     }
-    let mut nodes = [0usize; 64];
+    let mut nodes = [0usize; NODE_LIMIT];
     let reading = read(text, i as u8, o as u8, true, &mut nodes);
     let Reading::Good(count) = reading else {
-        return Trial::Refused(rule_refusal(reading));
+        return Trial::Refused(text_refusal(Subject::Rule, reading));
     };
     let k = first_over(letters, power(i + o));
     if k < letters.len() {

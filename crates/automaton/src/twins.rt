@@ -3,7 +3,13 @@ ghost use mathlib.Core.Path.{_≡_};
 ghost use mathlib.Core.Bool.{true};
 ghost use Prim.Native.Nat.{_≤_, _<_};
 ghost use lib.ListN.{length};
-ghost use Rattle.automaton.specs.inner.Representation.{SameRow, Twins};
+ghost use Rattle.automaton.specs.Limits.{letterLimit, pairLimit};
+ghost use Rattle.automaton.specs.inner.Representation.{SameRow, slotCount, Twins};
+use crate::bytes::wide;
+use crate::limits::ENTRY_LIMIT;
+use crate::limits::LETTER_LIMIT;
+use crate::limits::PAIR_LIMIT;
+use crate::limits::TABLE_SIZE;
 
 // The number of slots.
 const SLOTS: usize = 1021;
@@ -11,20 +17,13 @@ const SLOTS: usize = 1021;
 // What is kept of a key, so that one more entry fits into the word: 56 bits.
 const KEYS: usize = 0x100_0000_0000_0000;
 
-// A byte as an index.
-pub(crate) fn wide(b: u8) -> usize
-    ensures { λ r. ⌜ r ≡ b ⌝ }
-{
-    b as usize
-}
-
 // Whether the rows of two letters are equal.
-fn same_row(table: &[u8; 8192], entries: usize, a: usize, b: usize) -> bool
-    requires { ⌜ (entries ≤ 32) × (a < 256) × (b < 256) ⌝ }
+fn same_row(table: &[u8; TABLE_SIZE], entries: usize, a: usize, b: usize) -> bool
+    requires { ⌜ (entries ≤ pairLimit) × (a < letterLimit) × (b < letterLimit) ⌝ }
     ensures { λ r. ⌜ (r ≡ true → SameRow (now (table .entry)) entries a b) ⌝ }
 {
-    let left = a * 32;
-    let right = b * 32;
+    let left = a * PAIR_LIMIT;
+    let right = b * PAIR_LIMIT;
     let mut k: usize = 0;
     while k < entries {
         if table[left + k] != table[right + k] {
@@ -36,15 +35,15 @@ fn same_row(table: &[u8; 8192], entries: usize, a: usize, b: usize) -> bool
 }
 
 // The slot of a letter, which is made of its row: equal rows have the same slot, and different ones mostly different slots.
-fn slot_of(table: &[u8; 8192], entries: usize, letter: usize) -> usize
-    requires { ⌜ (entries ≤ 32) × (letter < 256) ⌝ }
-    ensures { λ r. ⌜ r < 1021 ⌝ }
+fn slot_of(table: &[u8; TABLE_SIZE], entries: usize, letter: usize) -> usize
+    requires { ⌜ (entries ≤ pairLimit) × (letter < letterLimit) ⌝ }
+    ensures { λ r. ⌜ r < slotCount ⌝ }
 {
-    let row = letter * 32;
+    let row = letter * PAIR_LIMIT;
     let mut key: usize = 0;
     let mut k: usize = 0;
     while k < entries {
-        let entry = table[row + k] % 64;
+        let entry = table[row + k] % ENTRY_LIMIT;
         key = (key % KEYS) * 127 + entry as usize;
         k += 1;
     }
@@ -52,8 +51,8 @@ fn slot_of(table: &[u8; 8192], entries: usize, letter: usize) -> usize
 }
 
 // The letter b, if it is smaller and has the same row, and else the letter itself.
-fn twin_of(table: &[u8; 8192], entries: usize, letter: usize, b: usize) -> usize
-    requires { ⌜ (entries ≤ 32) × (letter < 256) ⌝ }
+fn twin_of(table: &[u8; TABLE_SIZE], entries: usize, letter: usize, b: usize) -> usize
+    requires { ⌜ (entries ≤ pairLimit) × (letter < letterLimit) ⌝ }
     ensures { λ r. ⌜ (r ≤ letter) × SameRow (now (table .entry)) entries r letter ⌝ }
 {
     if b < letter {
@@ -66,13 +65,13 @@ fn twin_of(table: &[u8; 8192], entries: usize, letter: usize, b: usize) -> usize
 
 // Sets each letter's twin. A slot holds the last letter that was its own twin there.
 fn fill_twins(
-    table: &[u8; 8192],
+    table: &[u8; TABLE_SIZE],
     entries: usize,
     letters: usize,
     slots: &mut [u8],
     twins: &mut [u8],
 )
-    requires { ⌜ (entries ≤ 32) × (letters ≤ 256) × (1021 ≤ length (now slots)) × (letters ≤ length (now twins)) ⌝ }
+    requires { ⌜ (entries ≤ pairLimit) × (letters ≤ letterLimit) × (slotCount ≤ length (now slots)) × (letters ≤ length (now twins)) ⌝ }
     ensures { λ r. ⌜ Twins letters entries (now (table .entry)) (now (twins .exit)) ⌝ }
 {
     let mut a: usize = 0;
@@ -86,12 +85,16 @@ fn fill_twins(
 }
 
 // Each letter's twin: a letter with the same row, which is earlier where one was found and else the letter itself.
-pub(crate) fn find_twins(table: &[u8; 8192], entries: usize, letters: usize) -> [u8; 256]
-    requires { ⌜ (entries ≤ 32) × (letters ≤ 256) ⌝ }
+pub(crate) fn find_twins(
+    table: &[u8; TABLE_SIZE],
+    entries: usize,
+    letters: usize,
+) -> [u8; LETTER_LIMIT]
+    requires { ⌜ (entries ≤ pairLimit) × (letters ≤ letterLimit) ⌝ }
     ensures { λ r. ⌜ Twins letters entries (now (table .entry)) r ⌝ }
 {
     let mut slots = [0u8; SLOTS];
-    let mut twins = [0u8; 256];
+    let mut twins = [0u8; LETTER_LIMIT];
     fill_twins(table, entries, letters, &mut slots, &mut twins);
     twins
 }

@@ -1,5 +1,5 @@
--- The calls from C have one outcome: two runs on one input, with the same in the buffers before, for which the call's promise holds agree as specs/Agreement.antt
--- says. Each rests on the library call's theorem.
+-- The calls from C have one outcome: two runs on one input, with the same in the buffers before, for which the call's promise holds agree as
+-- specs/Agreement.antt says. Each rests on the library call's theorem.
 -- Assumes nothing.
 use Prim.Native.Nat.{ℕ, _^_}
 use mathlib.Core.Path.{_≡_, sym, ap, _∙_, subst, subst₂}
@@ -35,11 +35,14 @@ one-solve-rule i {new = new} {new′ = new′} x y =
       same-place = numbers answerPlace (w .answer) (x .place-of) (y .place-of);
       transitions = w .transitions;
       accepting = w .accepting;
-      tables = subst₂ (λ (k m : ℕ). TablesAfter k m (2 ^ i) (new .system) (new .environment) (new′ .system) (new′ .environment)) (sym (x .number-of)) (sym (x .n-of)) (w .tables);
+      tables =
+          subst₂ (λ (k m : ℕ). TablesAfter k m (2 ^ i) (new .system) (new .environment) (new′ .system) (new′ .environment)) (sym (x .number-of))
+          (sym (x .n-of)) (w .tables);
     }
 
 -- two runs of `airtable_solve_given` agree
-pub one-solve-given : {mode : Mode} (i o : ℕ) {start n : ℕ} {transitions accepting : List ℕ} {mask : ℕ} {σ₀ τ₀ σ τ σ′ τ′ : List ℕ} {number can place number′ can′ place′ : ℕ}
+pub one-solve-given : {mode : Mode} (i o : ℕ) {start n : ℕ} {transitions accepting : List ℕ} {mask : ℕ} {σ₀ τ₀ σ τ σ′ τ′ : List ℕ}
+    {number can place number′ can′ place′ : ℕ}
     → GivenWritten mode i o start (arena i o n transitions accepting mask) σ₀ τ₀ σ τ number can place
     → GivenWritten mode i o start (arena i o n transitions accepting mask) σ₀ τ₀ σ′ τ′ number′ can′ place′
     → GivenWrittenAgree n (2 ^ i) σ τ σ′ τ′ number can place number′ can′ place′
@@ -54,7 +57,8 @@ one-solve-given i o {n = n} {σ = σ} {τ = τ} {σ′ = σ′} {τ′ = τ′} 
 
 -- two runs of `airtable_follow` agree: its promise gives each number as a function of the input
 pub one-follow : {answer : Followed} {state₀ reached₀ state reached row output place number state′ reached′ row′ output′ place′ number′ : ℕ}
-    → StepWritten answer state₀ reached₀ state reached row output place number → StepWritten answer state₀ reached₀ state′ reached′ row′ output′ place′ number′
+    → StepWritten answer state₀ reached₀ state reached row output place number
+    → StepWritten answer state₀ reached₀ state′ reached′ row′ output′ place′ number′
     → StepWrittenAgree state reached row output place number state′ reached′ row′ output′ place′ number′
 one-follow x y =
     record {

@@ -1,7 +1,6 @@
--- What two runs of a call from C on one input, with the same in its buffers before, have in common (proofs/OneAnswer.antt: any two for which its promise holds):
--- every single number that is written, and the buffers as the library's calls leave them, where the free bytes of a won state alone may differ
--- (game, specs/Agreement.antt). The names with ′ are the second run's.
--- No promise of a call that the specification names rests on this file.
+-- What two runs of a call from C on one input, with the same in its buffers before, have in common (proofs/OneAnswer.antt: any two for which its promise
+-- holds): every single number that is written, and the buffers as the library's calls leave them, where the free bytes of a won state alone may differ
+-- (game, specs/Agreement.antt). The names with ′ are the second run's. No promise of a call that the specification names rests on this file.
 -- Assumes nothing.
 use Prim.Native.Nat.{ℕ}
 use mathlib.Core.Path.{_≡_}

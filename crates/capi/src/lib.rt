@@ -47,7 +47,9 @@ pub extern "C" fn airtable_solve_rule(
     n: &mut usize,
     place: &mut usize,
 ) -> u8
-    ensures { λ r. ⌜ RuleWritten (modeAt mode) i o (now (rule .entry)) (now (condition .entry)) (buffers (now (moves .entry)) (now (marks .entry)) (now (station .entry)) (now (outside .entry))) (buffers (now (moves .exit)) (now (marks .exit)) (now (station .exit)) (now (outside .exit))) r (now (can .exit)) (now (n .exit)) (now (place .exit)) ⌝ }
+    ensures { λ r. ⌜ RuleWritten (modeAt mode) i o (now (rule .entry)) (now (condition .entry))
+        (buffers (now (moves .entry)) (now (marks .entry)) (now (station .entry)) (now (outside .entry)))
+        (buffers (now (moves .exit)) (now (marks .exit)) (now (station .exit)) (now (outside .exit))) r (now (can .exit)) (now (n .exit)) (now (place .exit)) ⌝ }
 {
     let answer = solve_rule(
         i,
@@ -82,7 +84,8 @@ pub extern "C" fn airtable_solve_given(
     can: &mut u8,
     place: &mut usize,
 ) -> u8
-    ensures { λ r. ⌜ GivenWritten (modeAt mode) i o start (arena i o n (now (moves .entry)) (now (marks .entry)) mask) (now (station .entry)) (now (outside .entry)) (now (station .exit)) (now (outside .exit)) r (now (can .exit)) (now (place .exit)) ⌝ }
+    ensures { λ r. ⌜ GivenWritten (modeAt mode) i o start (arena i o n (now (moves .entry)) (now (marks .entry)) mask)
+        (now (station .entry)) (now (outside .entry)) (now (station .exit)) (now (outside .exit)) r (now (can .exit)) (now (place .exit)) ⌝ }
 {
     let answer = solve_given(
         i,
@@ -117,7 +120,9 @@ pub extern "C" fn airtable_follow(
     output: &mut u8,
     place: &mut usize,
 ) -> u8
-    ensures { λ r. ⌜ StepWritten (followed i o (arena i o n (now (moves .entry)) (now (marks .entry)) 0) (now (station .entry)) (positionOf (now (state .entry)) (now (reached .entry))) input) (now (state .entry)) (now (reached .entry)) (now (state .exit)) (now (reached .exit)) (now (row .exit)) (now (output .exit)) (now (place .exit)) r ⌝ }
+    ensures { λ r. ⌜ StepWritten (followed i o (arena i o n (now (moves .entry)) (now (marks .entry)) 0) (now (station .entry))
+        (positionOf (now (state .entry)) (now (reached .entry))) input) (now (state .entry)) (now (reached .entry)) (now (state .exit)) (now (reached .exit))
+        (now (row .exit)) (now (output .exit)) (now (place .exit)) r ⌝ }
 {
     let position = Position {
         state: *state,

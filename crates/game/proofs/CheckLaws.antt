@@ -7,8 +7,7 @@ use lib.Dec.{eqb, ltb}
 use lib.ListN.{length}
 use lib.Pow.{pow-mono, pow-pos}
 use borrow.Author.Tests.{ltb-false}
-use Rattle.game.specs.inner.Limits.{nameLimit, numberLimit}
-use Rattle.automaton.specs.Limits.{stateLimit}
+use Rattle.automaton.specs.Limits.{nameLimit, numberLimit, stateLimit}
 use Rattle.automaton.specs.Alphabet.{badAlphabet}
 use Rattle.automaton.proofs.AlphabetLaws.{inputs-fit, outputs-fit}
 use Rattle.plays.specs.Arena.{Arena}

@@ -3,9 +3,8 @@
 use Prim.Native.Nat.{ℕ, _+_, _*_, _<_, _≤_}
 use native.Mathlib.Nat.{mul-le-mul, mul-le-mul-left, mul-le-mul-right, mul-suc, suc-mul}
 use native.Mathlib.Omega.{arith}
-use Rattle.automaton.specs.Limits.{stateLimit}
+use Rattle.automaton.specs.Limits.{stateLimit, numberLimit, letterLimit}
 use Rattle.plays.specs.Arena.{Arena, next}
-use Rattle.game.specs.inner.Limits.{numberLimit, letterLimit}
 use Rattle.game.specs.inner.Game.{Valid}
 
 -- a letter's number is below the number of letters

@@ -13,7 +13,7 @@ use lib.ListN.{length, getD}
 use lib.Pow.{pow-pos}
 use borrow.Author.Tests.{eq-eqb, ne-eqb, ltb-true, ltb-false}
 use Rattle.game.proofs.CheckLaws.{small-power}
-use Rattle.game.specs.inner.Limits.{numberLimit}
+use Rattle.automaton.specs.Limits.{numberLimit, stateLimit}
 use Rattle.reader.specs.declared.reading.Reading.{Reading}
 use Rattle.reader.specs.declared.refusal.Refusal.{Refusal}
 use Rattle.reader.specs.declared.refusal.Refusal.the-variants.{Nothing, Alphabet, TextLength, Buffer, StateCount}
@@ -25,7 +25,6 @@ use Rattle.reader.specs.Refusal.{numberOf, afterCondition}
 use Rattle.reader.proofs.BoolLaws.{on, clash}
 use Rattle.reader.proofs.RefusalLaws.{something, refused-or-served}
 use Rattle.reader.proofs.Unambiguous.{one-formula, one-reading}
-use Rattle.automaton.specs.Limits.{stateLimit}
 use Rattle.automaton.specs.Alphabet.{badAlphabet, letterCount}
 use Rattle.automaton.specs.Construction.{CountOf}
 use Rattle.automaton.specs.Condition.{maskOf}

@@ -10,17 +10,23 @@ use native.Mathlib.Nat.{mul-le-mul-right, mul-pos, div-add-mod', div-lt-iff-lt-m
 use native.Mathlib.Omega.{arith}
 use lib.ListN.{length, getD, take}
 use lib.Pow.{pow-add, pow-pos}
+use Rattle.machine.specs.Letters.{Trace}
+use Rattle.machine.specs.Machine.{Machine}
+use Rattle.machine.specs.Run.{run}
+use Rattle.machine.specs.Discovery.{begin}
+use Rattle.machine.specs.Automaton as automata
+use Rattle.machine.specs.Automaton.{walk}
 use Rattle.reader.specs.Formula.{Formula}
 use Rattle.automaton.specs.Limits.{stateLimit}
 use Rattle.automaton.specs.Alphabet.{badAlphabet, Letters, letterCount, letterOf}
 use Rattle.automaton.specs.Bits.{one}
 use Rattle.automaton.specs.Trace.{Satisfies}
 use Rattle.automaton.specs.State.{start, accepts}
-use Rattle.automaton.specs.Discovery.{begin, states}
-use Rattle.automaton.specs.Automaton.{walk, Automaton}
+use Rattle.automaton.specs.Discovery.{states}
+use Rattle.automaton.specs.Automaton.{Automaton}
 use Rattle.plays.specs.declared.mode.Mode.{Mode}
 use Rattle.plays.specs.Arena.{Arena, arena, next, goal}
-use Rattle.plays.specs.Play.{Step, Legal, entered, run, reaches, letters, Along}
+use Rattle.plays.specs.Play.{Step, Legal, entered, standsOn, reaches, letters, Along}
 use Rattle.plays.specs.Strategy.{BySystem, ByEnvironment, SystemWins, EnvironmentWins}
 use Rattle.game.specs.inner.Game.{Valid}
 use Rattle.game.specs.Rule.{Satisfied, Can, Cannot}
@@ -32,8 +38,8 @@ use Rattle.game.proofs.CheckLaws.{small-power}
 
 module _ (G : Arena) where
   -- the transitions follow the letters as a play follows its steps
-  walk-run : (s : ℕ) (p : List Step) → walk (G .transitions) (G .inputs * G .outputs) s (letters G p) ≡ run G s p
-  unfolding walk run letters next
+  walk-run : (s : ℕ) (p : List Step) → walk (G .transitions) (G .inputs * G .outputs) s (letters G p) ≡ standsOn G s p
+  unfolding run letters next
   walk-run s [] = refl
   walk-run s (a ∷ p) = walk-run (entered G s a) p
 
@@ -47,13 +53,14 @@ module _ (G : Arena) where
       (letter-below (G .inputs) (G .outputs) (a .input) (a .output) (l .0) (l .1), steps-letters R legal (entered G s a) p (h .1))
 
 -- the start is a state
-pub some-state : {φ : Formula} {L n : ℕ} {transitions flags : List ℕ} → Automaton φ L n transitions flags → 0 < n
-some-state {φ} automaton = let w = automaton .numbering .complete (start φ) begin in omega (arith, w .1, automaton .count)
+pub some-state : {S : Type 0} {M : Machine S} {Good : Trace → Type 0} {L limit n : ℕ} {transitions flags : List ℕ}
+    → automata.Automaton M Good L limit n transitions flags → 0 < n
+some-state {M = M} automaton = let w = automaton .numbering .complete (M .first) begin in omega (arith, w .1, automaton .count)
 
 -- The arena is that of the formula's automaton, and R allows only steps in range.
 module _ (φ : Formula) (G : Arena) (automaton : Automaton φ (G .inputs * G .outputs) (G .states) (G .transitions) (G .accepting))
     (R : ℕ → Step → Type 0) (legal : (s : ℕ) (a : Step) → R s a → Legal G a) where
-  run-below : (s : ℕ) (p : List Step) → s < G .states → Along G R s p → run G s p < G .states
+  run-below : (s : ℕ) (p : List Step) → s < G .states → Along G R s p → standsOn G s p < G .states
   unfolding Along run next
   run-below s [] l h = l
   run-below s (a ∷ p) l h =
@@ -65,7 +72,7 @@ module _ (φ : Formula) (G : Arena) (automaton : Automaton φ (G .inputs * G .ou
   goal-flag : (s : ℕ) → s < G .states → goal G s ≡ true → getD (G .accepting) s 0 ≡ 1
   unfolding goal
   goal-flag s l g =
-      on (accepts φ (getD (states φ (G .inputs * G .outputs)) s 0))
+      on (accepts φ (getD (states φ (G .inputs * G .outputs)) s (start φ)))
       (λ t. automaton .marked s l ∙ ap one t)
       (λ f. clash (goal G s) g (rw (automaton .marked s l ∙ ap one f)))
 
@@ -74,20 +81,21 @@ module _ (φ : Formula) (G : Arena) (automaton : Automaton φ (G .inputs * G .ou
   flag-goal s e = rw e
 
   -- a play of at least one step stands on a goal exactly when its letters satisfy the formula
-  play-meaning : (a : Step) (p : List Step) → Along G R 0 (a ∷ p) → (goal G (run G 0 (a ∷ p)) ≡ true) ↔ Satisfies φ (letters G (a ∷ p))
+  play-meaning : (a : Step) (p : List Step) → Along G R 0 (a ∷ p) → (goal G (standsOn G 0 (a ∷ p)) ≡ true) ↔ Satisfies φ (letters G (a ∷ p))
   unfolding letters
   play-meaning a p h =
       let m = automaton .meaning (letterOf (G .inputs) (a .input) (a .output)) (letters G p) (steps-letters G R legal 0 (a ∷ p) h) in
-      let e : walk (G .transitions) (G .inputs * G .outputs) 0 (letters G (a ∷ p)) ≡ run G 0 (a ∷ p) = walk-run G 0 (a ∷ p) in (
-        (λ g. m .0 (ap (λ (s : ℕ). getD (G .accepting) s 0) e ∙ goal-flag (run G 0 (a ∷ p)) (run-below 0 (a ∷ p) (some-state automaton) h) g)),
-        (λ s. flag-goal (run G 0 (a ∷ p)) (ap (λ (s : ℕ). getD (G .accepting) s 0) (sym e) ∙ m .1 s)),
+      let e : walk (G .transitions) (G .inputs * G .outputs) 0 (letters G (a ∷ p)) ≡ standsOn G 0 (a ∷ p) = walk-run G 0 (a ∷ p) in (
+        (λ g. m .0 (ap (λ (s : ℕ). getD (G .accepting) s 0) e ∙ goal-flag (standsOn G 0 (a ∷ p)) (run-below 0 (a ∷ p) (some-state automaton) h) g)),
+        (λ s. flag-goal (standsOn G 0 (a ∷ p)) (ap (λ (s : ℕ). getD (G .accepting) s 0) (sym e) ∙ m .1 s)),
       )
 
-  beginning-meaning : (p : List Step) (k : ℕ) → 0 < k → k ≤ length p → Along G R 0 p → (goal G (run G 0 (take k p)) ≡ true) ↔ Satisfies φ (take k (letters G p))
+  beginning-meaning : (p : List Step) (k : ℕ) → 0 < k → k ≤ length p → Along G R 0 p
+      → (goal G (standsOn G 0 (take k p)) ≡ true) ↔ Satisfies φ (take k (letters G p))
   beginning-meaning p zero z l h = absurd (let z : ⊥ = omega arith in z)
   beginning-meaning [] (suc k) z l h = absurd (let z : ⊥ = omega arith in z)
   beginning-meaning (a ∷ p) (suc k) z l h =
-      subst (λ (w : List ℕ). (goal G (run G 0 (a ∷ take k p)) ≡ true) ↔ Satisfies φ w) (sym (take-letters G (a ∷ p) (suc k)))
+      subst (λ (w : List ℕ). (goal G (standsOn G 0 (a ∷ take k p)) ≡ true) ↔ Satisfies φ w) (sym (take-letters G (a ∷ p) (suc k)))
       (play-meaning a (take k p) (take-along G R 0 (a ∷ p) (suc k) h))
 
   pub reached-satisfied : (p : List Step) → Along G R 0 p → reaches G 0 p ≡ true → Satisfied φ G p

@@ -11,8 +11,7 @@ use native.Mathlib.Omega.{arith}
 use lib.Dec.{eqb}
 use lib.ListN.{getD}
 use borrow.Author.Tests.{eqb-true, eqb-false}
-use Rattle.game.specs.inner.Limits.{numberLimit}
-use Rattle.automaton.specs.Limits.{stateLimit}
+use Rattle.automaton.specs.Limits.{numberLimit, stateLimit}
 use Rattle.plays.specs.declared.mode.Mode.{Mode}
 use Rattle.plays.specs.Arena.{Arena}
 use Rattle.plays.specs.Strategy.{systemByte, environmentByte}

@@ -17,7 +17,8 @@ use Rattle.reader.specs.Refusal.{numberOf, placeOf, afterRule, afterCondition}
 use Rattle.automaton.specs.Limits.{stateLimit}
 use Rattle.automaton.specs.Alphabet.{badAlphabet, letterCount}
 use Rattle.automaton.specs.Trace.{Satisfies}
-use Rattle.automaton.specs.Automaton.{Automaton, Cleared}
+use Rattle.automaton.specs.Automaton.{Automaton}
+use Rattle.automaton.specs.Buffer.{Cleared}
 use Rattle.automaton.specs.Construction.{CountOf, shortAutomaton, Over}
 use Rattle.automaton.specs.Condition.{maskOf, Judges}
 use Rattle.game.specs.declared.answer.Answer.{Answer}
@@ -25,7 +26,7 @@ use Rattle.game.specs.declared.answer.Answer.the-variants.{Refused}
 use Rattle.game.specs.Answer.{answerNumber, answerPlace, verdictOf}
 use Rattle.plays.specs.declared.mode.Mode.{Mode}
 use Rattle.plays.specs.Arena.{Input, Arena, arena}
-use Rattle.plays.specs.Play.{Step, run, letters, Along}
+use Rattle.plays.specs.Play.{Step, standsOn, letters, Along}
 use Rattle.plays.specs.Strategy.{Table, systemByte, environmentByte, BySystem, ByEnvironment, Assumed, Failed}
 use Rattle.game.specs.Tables.{Tables, Verdict}
 
@@ -37,14 +38,15 @@ Satisfied φ G p = (k : ℕ) × (0 < k) × (k ≤ length p) × Satisfies φ (tak
 -- and until then comes to no byte that is no output
 pub record Can (mode : Mode) (φ : Formula) (G : Arena) (σ : Table) : Type 0 where
   pub satisfying : (p : List Step) → Along G (BySystem G σ) 0 p → Assumed mode G p → Satisfied φ G p
-  pub answers : (p : List Step) → Along G (BySystem G σ) 0 p → (Satisfied φ G p → ⊥) → (x : Input) → x < G .inputs → systemByte G σ (run G 0 p) x < G .outputs
+  pub answers : (p : List Step) → Along G (BySystem G σ) 0 p → (Satisfied φ G p → ⊥) → (x : Input) → x < G .inputs
+      → systemByte G σ (standsOn G 0 p) x < G .outputs
 
 -- "cannot": no play from the start that follows the environment's strategy has a beginning that satisfies the rule, fails the assumption,
 -- or comes to a byte that is no input
 pub record Cannot (mode : Mode) (φ : Formula) (G : Arena) (τ : Table) : Type 0 where
   pub avoiding : (p : List Step) → Along G (ByEnvironment G τ) 0 p → Satisfied φ G p → ⊥
   pub keeping : (p : List Step) → Along G (ByEnvironment G τ) 0 p → Failed mode G p → ⊥
-  pub answers : (p : List Step) → Along G (ByEnvironment G τ) 0 p → environmentByte τ (run G 0 p) < G .inputs
+  pub answers : (p : List Step) → Along G (ByEnvironment G τ) 0 p → environmentByte τ (standsOn G 0 p) < G .inputs
 
 -- the four buffers that are lent: transitions, accepting flags, the system's table and the environment's
 pub record Buffers : Type 0 where

@@ -1,10 +1,11 @@
 // The arena in code: its numbers, and one step on its transitions.
 ghost use mathlib.Core.Path.{_≡_};
 ghost use Prim.Native.Nat.{ℕ, _<_};
-ghost use Rattle.game.specs.inner.Limits.{numberLimit};
+ghost use Rattle.automaton.specs.Limits.{numberLimit};
 ghost use Rattle.automaton.specs.Bits.{bit};
 ghost use Rattle.plays.specs.Arena.{Arena, next};
 ghost use Rattle.game.specs.inner.Game.{arenaOf, Closed, Entered};
+use automaton::bytes::wide;
 
 // The numbers of states, inputs and outputs.
 pub struct Sizes {
@@ -28,13 +29,6 @@ pub(crate) fn has_condition(mask: u16, x: usize) -> bool
     ensures { λ r. ⌜ r ≡ bit mask x ⌝ }
 {
     (mask >> x) % 2 == 1
-}
-
-// A byte as a number.
-pub(crate) fn wide(b: u8) -> usize
-    ensures { λ r. ⌜ r ≡ b ⌝ }
-{
-    b as usize
 }
 
 // The state that input x and output y lead to from state s.

@@ -8,8 +8,8 @@ ghost use Rattle.game.specs.inner.Checks.{sizesOf, gameOf, InRange};
 ghost use Rattle.game.specs.Given.{badCount, shortRead};
 use crate::arena::Game;
 use crate::arena::Sizes;
-use crate::limits::STATE_LIMIT;
 use automaton::alphabet::power;
+use automaton::limits::STATE_LIMIT;
 use plays::mode::Mode;
 
 // Whether there are no states or more than 128.

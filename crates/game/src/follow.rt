@@ -10,11 +10,11 @@ ghost use Rattle.game.specs.inner.Checks.{InRange};
 ghost use Rattle.game.specs.Given.{shortRead};
 ghost use Rattle.game.specs.Follower.{shortStrategy, movedBy, laterFollowed, FollowedBy};
 use crate::arena::Sizes;
-use crate::arena::wide;
 use crate::checks::bad_count;
 use crate::checks::short_read;
 use crate::checks::sizes_of;
 use automaton::alphabet::bad_alphabet;
+use automaton::bytes::wide;
 use reader::refusal::Refusal;
 
 // A place in a play: the state, and whether a goal was entered.

@@ -1,13 +1,5 @@
-// The limits of the game. specs/inner/Limits.antt has the same ones for the contracts.
-
-// States at most.
-pub const STATE_LIMIT: usize = 128;
-
-// Inputs at most, and outputs at most.
-pub const NAME_LIMIT: usize = 4;
-
-// Input numbers at most, and output numbers at most.
-pub const NUMBER_LIMIT: usize = 1 << NAME_LIMIT;
+// The limits of the game. specs/inner/Limits.antt and specs/Tables.antt have the same ones for the contracts.
+use automaton::limits::STATE_LIMIT;
 
 // A rank: the number of a round or a pass, and 0 for none.
 pub type Rank = u16;

@@ -7,7 +7,6 @@ ghost use Rattle.game.specs.Rule.{Buffers, buffers, shortBuffers, RuleSo
 ghost use Rattle.game.specs.inner.RuleChecks.{RuleChecked};
 use crate::answer::Answer;
 use crate::checks::game_of;
-use crate::limits::STATE_LIMIT;
 use crate::tables::decide;
 use automaton::alphabet::bad_alphabet;
 use automaton::alphabet::power;
@@ -15,12 +14,14 @@ use automaton::condition::Assumption;
 use automaton::condition::read_condition;
 use automaton::construct::Construction;
 use automaton::construct::construct;
+use automaton::limits::STATE_LIMIT;
 use plays::mode::Mode;
 use reader::reading::Reading;
 use reader::reading::check;
 use reader::reading::too_long;
 use reader::refusal::Refusal;
-use reader::refusal::rule_refusal;
+use reader::refusal::Subject;
+use reader::refusal::text_refusal;
 
 // What the tests come to before the automaton is built: a refusal, or nothing and the condition's mask.
 pub struct Checked {
@@ -61,7 +62,7 @@ fn check_texts(i: usize, o: usize, rule: &[u8], condition: &[u8]) -> Checked
     let reading = check(rule, i as u8, o as u8, true);
     let Reading::Good(_) = reading else {
         return Checked {
-            refusal: rule_refusal(reading),
+            refusal: text_refusal(Subject::Rule, reading),
             mask: 0,
         };
     };

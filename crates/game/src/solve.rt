@@ -2,11 +2,11 @@
 use crate::arena::Game;
 use crate::arena::enters;
 use crate::arena::has_condition;
-use crate::arena::wide;
-use crate::limits::NUMBER_LIMIT;
 use crate::limits::RANK_LIMIT;
 use crate::limits::Rank;
-use crate::limits::STATE_LIMIT;
+use automaton::bytes::wide;
+use automaton::limits::NUMBER_LIMIT;
+use automaton::limits::STATE_LIMIT;
 ghost use mathlib.Core.Path.{_≡_};
 ghost use mathlib.Core.Bool.{true, false};
 ghost use Prim.Native.Nat.{_<_, _≤_};

@@ -26,8 +26,8 @@ use crate::arena::has_condition;
 use crate::limits::NO_MOVE;
 use crate::limits::RANK_LIMIT;
 use crate::limits::Rank;
-use crate::limits::STATE_LIMIT;
 use crate::solve::solve;
+use automaton::limits::STATE_LIMIT;
 
 // The largest rank that is allowed after a step from a state of rank `own`.
 fn limit(steady: bool, judged: bool, own: Rank) -> Rank

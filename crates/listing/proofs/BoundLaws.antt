@@ -18,12 +18,12 @@ use Rattle.reader.specs.declared.reading.Reading.the-variants.{Good, TooLong, B
 use Rattle.reader.specs.declared.refusal.Refusal.{Refusal}
 use Rattle.reader.specs.declared.refusal.Refusal.the-variants.{Nothing, Alphabet, TextLength, Buffer, RuleText, RuleNodes, RuleOperators, ConditionText, ConditionNodes, StateCount, GivenCount, Move, State, Value}
 use Rattle.reader.specs.declared.marks.Kind.{Kind}
-use Rattle.reader.specs.Limits.{tooLong}
+use Rattle.reader.specs.Limits.{textLimit, tooLong}
 use Rattle.reader.specs.Reading.{ReadingOf}
 use Rattle.reader.specs.Refusal.{numberOf, placeOf, afterRule, afterCondition}
 use Rattle.reader.proofs.BoolLaws.{on, or-left, or-right}
 use Rattle.automaton.specs.Alphabet.{badAlphabet}
-use Rattle.automaton.specs.Limits.{stateLimit}
+use Rattle.automaton.specs.Limits.{stateLimit, numberLimit}
 use Rattle.game.specs.declared.answer.Answer.{Answer}
 use Rattle.game.specs.declared.answer.Answer.the-variants.{Refused}
 use Rattle.game.specs.Answer.{verdictOf}
@@ -50,14 +50,14 @@ number-small State = omega arith
 number-small (Value k) = omega arith
 
 -- the place of a bad text
-place-within : (i : ℕ) (kind : ℕ → Kind) (text : List ℕ) (ρ : Reading) → ReadingOf i kind text ρ → (k : ℕ) → ρ ≡ Bad k → k ≤ 255
+place-within : (i : ℕ) (kind : ℕ → Kind) (text : List ℕ) (ρ : Reading) → ReadingOf i kind text ρ → (k : ℕ) → ρ ≡ Bad k → k ≤ textLimit
 unfolding ReadingOf
 place-within i kind text ρ h k e =
     let p : ReadingOf i kind text (Bad k) = subst (λ (x : Reading). ReadingOf i kind text x) e h in
     omega (arith, p .0, p .1 .within)
 
-place-small : (a b c d : Bool) (ρ κ : Reading) → ((k : ℕ) → ρ ≡ Bad k → k ≤ 255) → ((k : ℕ) → κ ≡ Bad k → k ≤ 255)
-    → placeOf (cond a Alphabet (cond b TextLength (cond c Buffer (afterRule ρ (afterCondition κ (cond d StateCount Nothing)))))) ≤ 255
+place-small : (a b c d : Bool) (ρ κ : Reading) → ((k : ℕ) → ρ ≡ Bad k → k ≤ textLimit) → ((k : ℕ) → κ ≡ Bad k → k ≤ textLimit)
+    → placeOf (cond a Alphabet (cond b TextLength (cond c Buffer (afterRule ρ (afterCondition κ (cond d StateCount Nothing)))))) ≤ textLimit
 place-small true b c d ρ κ f g = omega arith
 place-small false true c d ρ κ f g = omega arith
 place-small false false true d ρ κ f g = omega arith
@@ -77,10 +77,10 @@ alphabet-served true x e = absurd (omega arith)
 alphabet-served false x e = refl
 
 module _ {mode : Mode} {i o : ℕ} {rule condition : List ℕ} {old new : Buffers} {r : Answer} (m : RuleSolved mode i o rule condition old new r) where
-  refusal-place : placeOf (m .refusal) ≤ 255
+  refusal-place : placeOf (m .refusal) ≤ textLimit
   unfolding ruleRefusal
   refusal-place =
-      subst (λ (x : Refusal). placeOf x ≤ 255) (sym (m .first))
+      subst (λ (x : Refusal). placeOf x ≤ textLimit) (sym (m .first))
       (place-small (badAlphabet i o) (tooLong rule || tooLong condition) (shortBuffers i o old) (ltb stateLimit (m .states)) (m .reading) (m .condition-reading)
       (place-within i _ rule (m .reading) (m .read))
       (place-within i _ condition (m .condition-reading) (m .condition-read)))
@@ -90,16 +90,17 @@ module _ {mode : Mode} {i o : ℕ} {rule condition : List ℕ} {old new : Buffer
     unfolding ruleRefusal
     small = alphabet-served (badAlphabet i o) _ (ap numberOf (sym (m .first)) ∙ z)
 
-    few-inputs : 2 ^ i ≤ 16
+    few-inputs : 2 ^ i ≤ numberLimit
     few-inputs = pow-mono {j = 4} (ltb-false 4 i (or-left (ltb 4 i) (ltb 4 o) small))
 
-    few-outputs : 2 ^ o ≤ 16
+    few-outputs : 2 ^ o ≤ numberLimit
     few-outputs = pow-mono {j = 4} (ltb-false 4 o (or-right (ltb 4 i) (ltb 4 o) small))
 
-    few-states : m .states ≤ 128
+    few-states : m .states ≤ stateLimit
     few-states = served-states i o rule condition old (m .reading) (m .condition-reading) (m .states) (ap numberOf (sym (m .first)) ∙ z)
 
-    served-line : {can : Bool} → RuleServed mode i o rule condition old new (m .states) can → (s : ℕ) → s < m .states → length (stateLine (2 ^ i) (new .accepting) (new .system) (new .environment) s) ≤ 56
+    served-line : {can : Bool} → RuleServed mode i o rule condition old new (m .states) can → (s : ℕ) → s < m .states
+        → length (stateLine (2 ^ i) (new .accepting) (new .system) (new .environment) s) ≤ 56
     served-line v s h =
         let p = few-inputs in
         let q = few-outputs in
@@ -110,9 +111,12 @@ module _ {mode : Mode} {i o : ℕ} {rule condition : List ℕ} {old new : Buffer
         (λ w. environment-length (2 ^ i) p (new .system) (new .environment) s (let b = w .byte in omega arith))
         (v .tables .won s h))
 
-    served-length : (can : Bool) → RuleServed mode i o rule condition old new (m .states) can → length (listing i new (verdictOf can (m .states))) ≤ outputSize
-    served-length true v = verdict-length (2 ^ i) (new .accepting) (new .system) (new .environment) canWord (m .states) (omega arith) few-states (served-line v)
-    served-length false v = verdict-length (2 ^ i) (new .accepting) (new .system) (new .environment) cannotWord (m .states) (omega arith) few-states (served-line v)
+    served-length :
+        (can : Bool) → RuleServed mode i o rule condition old new (m .states) can → length (listing i new (verdictOf can (m .states))) ≤ outputSize
+    served-length true v =
+        verdict-length (2 ^ i) (new .accepting) (new .system) (new .environment) canWord (m .states) (omega arith) few-states (served-line v)
+    served-length false v =
+        verdict-length (2 ^ i) (new .accepting) (new .system) (new .environment) cannotWord (m .states) (omega arith) few-states (served-line v)
 
   pub listing-length : length (listing i new r) ≤ outputSize
   listing-length =
@@ -123,7 +127,8 @@ module _ {mode : Mode} {i o : ℕ} {rule condition : List ℕ} {old new : Buffer
       subst (λ (x : Answer). length (listing i new x) ≤ outputSize) (sym (v .1)) (served-length z (v .0) (v .2)))
       (λ f.
       let e : r ≡ Refused (m .refusal) = m .refused (λ n. eqb-false (numberOf (m .refusal)) 0 f (ap numberOf n)) .0 in
-      subst (λ (x : Answer). length (listing i new x) ≤ outputSize) (sym e) (refusal-length (numberOf (m .refusal)) (placeOf (m .refusal)) (number-small (m .refusal)) refusal-place))
+      subst (λ (x : Answer). length (listing i new x) ≤ outputSize) (sym e)
+      (refusal-length (numberOf (m .refusal)) (placeOf (m .refusal)) (number-small (m .refusal)) refusal-place))
 
 -- what the program prints has at most 8,192 bytes
 pub prints-length : {input text : List ℕ} → Prints input text → length text ≤ outputSize
@@ -134,7 +139,8 @@ prints-length {input} {text} p =
     p
 
 -- an output of that size holds the whole text, and nothing else among its first r bytes
-pub listed-whole : {input output output′ : List ℕ} {r : ℕ} (l : Listed input output output′ r) → outputSize ≤ length output → (r ≡ length (l .text)) × (take r output′ ≡ l .text)
+pub listed-whole : {input output output′ : List ℕ} {r : ℕ} (l : Listed input output output′ r) → outputSize ≤ length output
+    → (r ≡ length (l .text)) × (take r output′ ≡ l .text)
 listed-whole {input} {output} {output′} {r} l h =
     let b : length (l .text) ≤ length output = let g = prints-length (l .prints) in omega arith in
     let e : r ≡ length (l .text) = l .count ∙ min-eq-left b in

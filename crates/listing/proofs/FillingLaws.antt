@@ -20,7 +20,8 @@ filled-one : (out : List ℕ) (at b : ℕ) (bytes : List ℕ) → at < length ou
 filled-one out at b bytes h =
     let n : length out - at ≡ suc (length out - suc at) = omega arith in
     let m : at + suc (length bytes) ≡ suc at + length bytes = omega arith in
-    rw (take-suc-set out at b h, length-set out at b, drop-set-lt (suc at + length bytes) out at b (omega arith), n, m) (append-assoc (take at out) (b ∷ []) (take (length out - suc at) bytes ++ drop (suc at + length bytes) out))
+    rw (take-suc-set out at b h, length-set out at b, drop-set-lt (suc at + length bytes) out at b (omega arith), n, m)
+    (append-assoc (take at out) (b ∷ []) (take (length out - suc at) bytes ++ drop (suc at + length bytes) out))
 
 filled-none : (out : List ℕ) (at b : ℕ) (bytes : List ℕ) → length out ≤ at → filled out at bytes ≡ filled out at (b ∷ bytes)
 filled-none out at b bytes h =
@@ -32,13 +33,23 @@ unfolding written
 written-filled [] out at h = let n : at + 0 ≡ at = omega arith in rw (take-nil (length out - at), n) (sym (take-append-drop at out))
 written-filled (b ∷ bytes) out at h =
     on (ltb at (length out))
-    (λ e. let g : at < length out = ltb-true at (length out) e in rw e (written-filled bytes (set out at b) (suc at) (subst (λ (l : ℕ). suc at ≤ l) (sym (length-set out at b)) g) ∙ filled-one out at b bytes g))
-    (λ e. let g : length out ≤ at = ltb-false at (length out) e in rw (e, set-out out at b g) (written-filled bytes out at h ∙ filled-none out at b bytes g))
+    (λ e.
+    let g : at < length out = ltb-true at (length out) e in
+    rw e (written-filled bytes (set out at b) (suc at) (subst (λ (l : ℕ). suc at ≤ l) (sym (length-set out at b)) g) ∙ filled-one out at b bytes g))
+    (λ e.
+    let g : length out ≤ at = ltb-false at (length out) e in rw (e, set-out out at b g) (written-filled bytes out at h ∙ filled-none out at b bytes g))
 
 pub position-least : (bytes : List ℕ) (size at : ℕ) → at ≤ size → position size at bytes ≡ min (at + length bytes) size
 unfolding position
 position-least [] size at h = let n : at + 0 ≡ at = omega arith in rw n (sym (min-eq-left h))
 position-least (b ∷ bytes) size at h =
     on (ltb at size)
-    (λ e. let g : at < size = ltb-true at size e in let n : at + suc (length bytes) ≡ suc at + length bytes = omega arith in rw (e, n) (position-least bytes size (suc at) g))
-    (λ e. let g : size ≤ at = ltb-false at size e in rw e (position-least bytes size at h ∙ min-eq-right {m = at + length bytes} (omega arith) ∙ sym (min-eq-right {m = at + suc (length bytes)} (omega arith))))
+    (λ e.
+    let g : at < size = ltb-true at size e in
+    let n : at + suc (length bytes) ≡ suc at + length bytes = omega arith in rw (e, n) (position-least bytes size (suc at) g))
+    (λ e.
+    let g : size ≤ at = ltb-false at size e in
+    rw e
+    (position-least bytes size at h
+    ∙ min-eq-right {m = at + length bytes} (omega arith)
+    ∙ sym (min-eq-right {m = at + suc (length bytes)} (omega arith))))

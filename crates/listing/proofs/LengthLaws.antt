@@ -7,6 +7,9 @@ use native.Mathlib.Omega.{arith}
 use lib.Dec.{ltb}
 use lib.ListN.{length, getD, length-append}
 use borrow.Author.Tests.{ltb-true, ltb-false}
+use Rattle.reader.specs.Limits.{textLimit}
+use Rattle.automaton.specs.Limits.{stateLimit, numberLimit}
+use Rattle.game.specs.Tables.{noMove}
 use Rattle.reader.proofs.BoolLaws.{on}
 use Rattle.listing.specs.Decimal.{digit, digits, decimal}
 use Rattle.listing.specs.Input.{newline, blank}
@@ -47,18 +50,22 @@ decimal-three n h =
     (λ e. let g = decimal-two (n / 10) (omega arith) in omega (arith, decimal-more n (ltb-false n 10 e)))
 
 -- a row of small bytes
-pub fields-length : (table : List ℕ) (from count : ℕ) → ((k : ℕ) → k < count → getD table (from + k) 0 < 100) → length (fields table from count) ≤ 3 * count
+pub fields-length :
+    (table : List ℕ) (from count : ℕ) → ((k : ℕ) → k < count → getD table (from + k) 0 < 100) → length (fields table from count) ≤ 3 * count
 unfolding fields
 fields-length table from zero h = omega arith
 fields-length table from (suc count) h =
     let n : from + 0 ≡ from = omega arith in
     let g : getD table from 0 < 100 = subst (λ (k : ℕ). getD table k 0 < 100) n (h 0 (omega arith)) in
-    let ih = fields-length table (suc from) count (λ k l. let m : from + suc k ≡ suc from + k = omega arith in subst (λ (j : ℕ). getD table j 0 < 100) m (h (suc k) (omega arith))) in
+    let ih =
+    fields-length table (suc from) count
+    (λ k l. let m : from + suc k ≡ suc from + k = omega arith in subst (λ (j : ℕ). getD table j 0 < 100) m (h (suc k) (omega arith))) in
     omega (arith, length-append (blank ∷ decimal (getD table from 0)) (fields table (suc from) count), decimal-two (getD table from 0) g)
 
 -- a state's winner and row, where the bytes are small
-module _ (inputs : ℕ) (few : inputs ≤ 16) (system environment : List ℕ) (s : ℕ) where
-  pub system-length : getD environment s 0 ≡ 255 → ((x : ℕ) → x < inputs → getD system (s * inputs + x) 0 < 100) → length (winnerFields inputs system environment s) ≤ 49
+module _ (inputs : ℕ) (few : inputs ≤ numberLimit) (system environment : List ℕ) (s : ℕ) where
+  pub system-length : getD environment s 0 ≡ noMove → ((x : ℕ) → x < inputs → getD system (s * inputs + x) 0 < 100)
+      → length (winnerFields inputs system environment s) ≤ 49
   system-length e h = rw (winner-system inputs system environment s e) (omega (arith, fields-length system (s * inputs) inputs h))
 
   pub environment-length : getD environment s 0 < 100 → length (winnerFields inputs system environment s) ≤ 49
@@ -68,27 +75,55 @@ module _ (inputs : ℕ) (few : inputs ≤ 16) (system environment : List ℕ) (s
 
 -- a state's line, and the lines
 module _ (inputs : ℕ) (accepting system environment : List ℕ) where
-  pub line-length : (s : ℕ) → s < 128 → length (winnerFields inputs system environment s) ≤ 49 → length (stateLine inputs accepting system environment s) ≤ 56
+  pub line-length : (s : ℕ) → s < stateLimit → length (winnerFields inputs system environment s) ≤ 49
+      → length (stateLine inputs accepting system environment s) ≤ 56
   unfolding stateLine
   line-length s h w =
       let m : List ℕ = blank ∷ goalMark accepting s ∷ blank ∷ [] in
       let f : List ℕ = winnerFields inputs system environment s in
-      omega (arith, length-append (decimal s) (m ++ (f ++ (newline ∷ []))), length-append m (f ++ (newline ∷ [])), length-append f (newline ∷ []), decimal-three s (omega arith))
+      omega (
+        arith,
+        length-append (decimal s) (m ++ (f ++ (newline ∷ []))),
+        length-append m (f ++ (newline ∷ [])),
+        length-append f (newline ∷ []),
+        decimal-three s (omega arith),
+      )
 
-  pub lines-length : (n : ℕ) → ((s : ℕ) → s < n → length (stateLine inputs accepting system environment s) ≤ 56) → (s count : ℕ) → s + count ≤ n → length (stateLines inputs accepting system environment s count) ≤ 56 * count
+  pub lines-length : (n : ℕ) → ((s : ℕ) → s < n → length (stateLine inputs accepting system environment s) ≤ 56) → (s count : ℕ) → s + count ≤ n
+      → length (stateLines inputs accepting system environment s count) ≤ 56 * count
   unfolding stateLines
   lines-length n h s zero l = omega arith
   lines-length n h s (suc count) l =
       let ih = lines-length n h (suc s) count (omega arith) in
-      omega (arith, length-append (stateLine inputs accepting system environment s) (stateLines inputs accepting system environment (suc s) count), h s (omega arith))
+      omega (
+        arith,
+        length-append (stateLine inputs accepting system environment s) (stateLines inputs accepting system environment (suc s) count),
+        h s (omega arith),
+      )
 
-  pub verdict-length : (word : List ℕ) (n : ℕ) → length word ≤ 7 → n ≤ 128 → ((s : ℕ) → s < n → length (stateLine inputs accepting system environment s) ≤ 56) → length (verdictLines inputs accepting system environment word n) ≤ outputSize
+  pub verdict-length :
+      (word : List ℕ) (n : ℕ) → length word ≤ 7 → n ≤ stateLimit → ((s : ℕ) → s < n → length (stateLine inputs accepting system environment s) ≤ 56)
+      → length (verdictLines inputs accepting system environment word n) ≤ outputSize
   unfolding verdictLines
   verdict-length word n w b h =
       let r : List ℕ = stateLines inputs accepting system environment 0 n in
-      omega (arith, length-append word (decimal n ++ ((newline ∷ []) ++ r)), length-append (decimal n) ((newline ∷ []) ++ r), length-append (newline ∷ []) r, decimal-three n (omega arith), lines-length n h 0 n (omega arith))
+      omega (
+        arith,
+        length-append word (decimal n ++ ((newline ∷ []) ++ r)),
+        length-append (decimal n) ((newline ∷ []) ++ r),
+        length-append (newline ∷ []) r,
+        decimal-three n (omega arith),
+        lines-length n h 0 n (omega arith),
+      )
 
-pub refusal-length : (number place : ℕ) → number ≤ 14 → place ≤ 255 → length (refusalLine number place) ≤ outputSize
+pub refusal-length : (number place : ℕ) → number ≤ 14 → place ≤ textLimit → length (refusalLine number place) ≤ outputSize
 unfolding refusalLine
 refusal-length number place h g =
-    omega (arith, length-append refusedWord (decimal number ++ ((blank ∷ decimal place) ++ (newline ∷ []))), length-append (decimal number) ((blank ∷ decimal place) ++ (newline ∷ [])), length-append (blank ∷ decimal place) (newline ∷ []), decimal-any number, decimal-any place)
+    omega (
+      arith,
+      length-append refusedWord (decimal number ++ ((blank ∷ decimal place) ++ (newline ∷ []))),
+      length-append (decimal number) ((blank ∷ decimal place) ++ (newline ∷ [])),
+      length-append (blank ∷ decimal place) (newline ∷ []),
+      decimal-any number,
+      decimal-any place,
+    )

@@ -50,7 +50,9 @@ no-number State e = absurd (omega arith)
 no-number (Value k) e = absurd (omega arith)
 
 -- too many states are refused, whatever comes before
-over-refused : (a b c : Bool) (ρ κ : Reading) → numberOf (cond a Alphabet (cond b TextLength (cond c Buffer (afterRule ρ (afterCondition κ StateCount))))) ≡ 0 → ⊥
+over-refused :
+    (a b c : Bool) (ρ κ : Reading) → numberOf (cond a Alphabet (cond b TextLength (cond c Buffer (afterRule ρ (afterCondition κ StateCount))))) ≡ 0
+    → ⊥
 over-refused true b c ρ κ e = omega arith
 over-refused false true c ρ κ e = omega arith
 over-refused false false true ρ κ e = omega arith
@@ -64,7 +66,9 @@ over-refused false false false (Bad k) κ e = omega arith
 over-refused false false false TooManyNodes κ e = omega arith
 over-refused false false false TooManyOperators κ e = omega arith
 
-pub served-states : (i o : ℕ) (rule condition : List ℕ) (old : Buffers) (ρ κ : Reading) (n : ℕ) → numberOf (ruleRefusal i o rule condition old ρ κ n) ≡ 0 → n ≤ 128
+pub served-states :
+    (i o : ℕ) (rule condition : List ℕ) (old : Buffers) (ρ κ : Reading) (n : ℕ) → numberOf (ruleRefusal i o rule condition old ρ κ n) ≡ 0
+    → n ≤ stateLimit
 unfolding ruleRefusal
 served-states i o rule condition old ρ κ n e =
     on (ltb stateLimit n)
@@ -72,7 +76,8 @@ served-states i o rule condition old ρ κ n e =
     (λ f. ltb-false stateLimit n f)
 
 -- an answer has at most 128 states
-pub solved-states : {mode : Mode} {i o : ℕ} {rule condition : List ℕ} {old new : Buffers} {r : Answer} → RuleSolved mode i o rule condition old new r → answerStates r ≤ 128
+pub solved-states : {mode : Mode} {i o : ℕ} {rule condition : List ℕ} {old new : Buffers} {r : Answer} → RuleSolved mode i o rule condition old new r
+    → answerStates r ≤ stateLimit
 solved-states {mode} {i} {o} {rule} {condition} {old} {new} {r} m =
     on (eqb (numberOf (m .refusal)) 0)
     (λ t.
@@ -80,10 +85,10 @@ solved-states {mode} {i} {o} {rule} {condition} {old} {new} {r} m =
     let v = m .served (no-number (m .refusal) z) in
     let e : answerStates r ≡ m .states = ap answerStates (v .1) ∙ verdict-states (v .0) (m .states) in
     let h = served-states i o rule condition old (m .reading) (m .condition-reading) (m .states) (ap numberOf (sym (m .first)) ∙ z) in
-    subst (λ (k : ℕ). k ≤ 128) (sym e) h)
+    subst (λ (k : ℕ). k ≤ stateLimit) (sym e) h)
     (λ f.
     let e : answerStates r ≡ 0 = ap answerStates (m .refused (λ n. eqb-false (numberOf (m .refusal)) 0 f (ap numberOf n)) .0) in
-    subst (λ (k : ℕ). k ≤ 128) (sym e) (omega arith))
+    subst (λ (k : ℕ). k ≤ stateLimit) (sym e) (omega arith))
 
 -- the transitions are not listed
 listing-same : (i : ℕ) (t a σ τ : List ℕ) (r : Answer) → listingOf i a σ τ r ≡ listing i (buffers t a σ τ) r
@@ -92,7 +97,8 @@ listing-same i t a σ τ (Cannot n) = refl
 listing-same i t a σ τ (Refused x) = refl
 
 -- what is written from the output's beginning
-text-written : (out text out′ : List ℕ) (r : ℕ) → Writes out 0 text out′ r → (out′ ≡ take (length out) text ++ drop (length text) out) × (r ≡ min (length text) (length out))
+text-written : (out text out′ : List ℕ) (r : ℕ) → Writes out 0 text out′ r
+    → (out′ ≡ take (length out) text ++ drop (length text) out) × (r ≡ min (length text) (length out))
 text-written out text out′ r w =
     let n : length out - 0 ≡ length out = omega arith in
     let m : 0 + length text ≡ length text = omega arith in
@@ -131,7 +137,11 @@ module _ (s : List ℕ) (ok : isRequest s ≡ true) where
       }
 
 -- the parts that are handed to the rule call are the request's
-pub asked-parts : (s : List ℕ) (start end to i o : ℕ) (f : Mode) (old new : Buffers) (x : Answer) → start ≡ conditionStart s → end ≡ lineEnd s start → to ≡ lineEnd s (end + 1)
-    → i ≡ digitAt s 0 → o ≡ digitAt s 2 → f ≡ modeIn s → RuleSolved f i o (take (to - (end + 1)) (drop (end + 1) s)) (take (end - start) (drop start s)) old new x
+pub asked-parts : (s : List ℕ) (start end to i o : ℕ) (f : Mode) (old new : Buffers) (x : Answer) → start ≡ conditionStart s → end ≡ lineEnd s start
+    → to ≡ lineEnd s (end + 1)
+    → i ≡ digitAt s 0
+    → o ≡ digitAt s 2
+    → f ≡ modeIn s
+    → RuleSolved f i o (take (to - (end + 1)) (drop (end + 1) s)) (take (end - start) (drop start s)) old new x
     → RuleSolved (modeIn s) (digitAt s 0) (digitAt s 2) (rulePart s (conditionStart s)) (conditionPart s (conditionStart s)) old new x
 asked-parts s start end to i o f old new x a b c d e g m = rw (← a, ← b, ← c, ← d, ← e, ← g) m

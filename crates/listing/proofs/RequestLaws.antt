@@ -62,7 +62,9 @@ module _ (s : List ℕ) (a : ℕ) (ok : hasTexts s a ≡ true) where
   rule-text =
       let t : List ℕ = drop (ruleStart s a) s in
       let m : length t ≡ suc (lineLength t) = omega (arith, texts-rule, length-drop (ruleStart s a) s) in
-      line-split t (omega arith) ∙ ap (λ (l : List ℕ). take (lineLength t) t ++ (newline ∷ l)) (drop-of-length-le t {i = suc (lineLength t)} (omega arith)) ∙ ap (λ (l : List ℕ). l ++ (newline ∷ [])) (sym rule-is)
+      line-split t (omega arith)
+      ∙ ap (λ (l : List ℕ). take (lineLength t) t ++ (newline ∷ l)) (drop-of-length-le t {i = suc (lineLength t)} (omega arith))
+      ∙ ap (λ (l : List ℕ). l ++ (newline ∷ [])) (sym rule-is)
 
   pub texts-are : drop a s ≡ texts (conditionPart s a) (rulePart s a)
   texts-are =
@@ -178,7 +180,8 @@ start-within s h ok =
     rw e (omega (arith, begins-length (stableWord ++ (newline ∷ [])) (drop 4 s) g, length-drop 4 s)))
 
 -- an input that passes the tests is a request with the parts that are found
-pub request-asks : (s : List ℕ) → isRequest s ≡ true → Asks s (digitAt s 0) (digitAt s 2) (modeIn s) (conditionPart s (conditionStart s)) (rulePart s (conditionStart s))
+pub request-asks : (s : List ℕ) → isRequest s ≡ true
+    → Asks s (digitAt s 0) (digitAt s 2) (modeIn s) (conditionPart s (conditionStart s)) (rulePart s (conditionStart s))
 request-asks s ok =
     let d = digits-are s (request-digits s ok) in
     let t = request-texts s ok in
@@ -215,7 +218,8 @@ unfolding beginsWith
 has-mode s i o Fair c r q = rw (q .text) refl
 has-mode s i o Stable c r q = rw (q .text) refl
 
-texts-found : (s : List ℕ) (i o : ℕ) (mode : Mode) (c r : List ℕ) → Asks s i o mode c r → (conditionStart s ≤ length s) × (drop (conditionStart s) s ≡ texts c r)
+texts-found : (s : List ℕ) (i o : ℕ) (mode : Mode) (c r : List ℕ) → Asks s i o mode c r
+    → (conditionStart s ≤ length s) × (drop (conditionStart s) s ≡ texts c r)
 unfolding conditionStart
 texts-found s i o Fair c r q = rw (fair-found s i o Fair c r q) (omega (arith, ap length (q .text)), ap (λ (l : List ℕ). drop 9 l) (q .text))
 texts-found s i o Stable c r q = rw (fair-found s i o Stable c r q) (omega (arith, ap length (q .text)), ap (λ (l : List ℕ). drop 11 l) (q .text))
@@ -280,8 +284,14 @@ asks-parts s i o mode c r q =
     }
 
 -- an input has at most one reading
-pub one-request : {s : List ℕ} {i i′ o o′ : ℕ} {mode mode′ : Mode} {c c′ r r′ : List ℕ} → Asks s i o mode c r → Asks s i′ o′ mode′ c′ r′ → (i ≡ i′) × (o ≡ o′) × (mode ≡ mode′) × (c ≡ c′) × (r ≡ r′)
+pub one-request : {s : List ℕ} {i i′ o o′ : ℕ} {mode mode′ : Mode} {c c′ r r′ : List ℕ} → Asks s i o mode c r → Asks s i′ o′ mode′ c′ r′
+    → (i ≡ i′) × (o ≡ o′) × (mode ≡ mode′) × (c ≡ c′) × (r ≡ r′)
 one-request {s} {i} {i′} {o} {o′} {mode} {mode′} {c} {c′} {r} {r′} p q =
     let x = asks-parts s i o mode c r p in
-    let y = asks-parts s i′ o′ mode′ c′ r′ q in
-    (x .inputs ∙ sym (y .inputs), x .outputs ∙ sym (y .outputs), x .mode-is ∙ sym (y .mode-is), x .condition ∙ sym (y .condition), x .rule ∙ sym (y .rule))
+    let y = asks-parts s i′ o′ mode′ c′ r′ q in (
+      x .inputs ∙ sym (y .inputs),
+      x .outputs ∙ sym (y .outputs),
+      x .mode-is ∙ sym (y .mode-is),
+      x .condition ∙ sym (y .condition),
+      x .rule ∙ sym (y .rule),
+    )

@@ -1,5 +1,5 @@
--- The program's call (specs/Promise.antt): its output has room for the whole text, and what it answers for the first 2,049 bytes of an input is the answer for the
--- input, however long it is.
+-- The program's call (specs/Promise.antt): its output has room for the whole text, and what it answers for the first 2,049 bytes of an input is the
+-- answer for the input, however long it is.
 -- Assumes nothing.
 use Prim.Native.Nat.{ℕ, _≤_, _<_, min}
 use mathlib.Core.Path.{_≡_, refl, sym, ap, subst, _∙_}
@@ -20,10 +20,13 @@ take-least : (n : ℕ) (l : List ℕ) → take (min n (length l)) l ≡ take n l
 take-least n l =
     on (leb n (length l))
     (λ t. rw (min-eq-left (leb-true n (length l) t)) refl)
-    (λ f. let h : length l ≤ n = (let g = leb-false n (length l) f in omega arith) in rw (min-eq-right h) (take-all (length l) l (omega arith) ∙ sym (take-all n l h)))
+    (λ f.
+    let h : length l ≤ n = (let g = leb-false n (length l) f in omega arith) in
+    rw (min-eq-right h) (take-all (length l) l (omega arith) ∙ sym (take-all n l h)))
 
 -- what the listing call writes into an output of that size is the whole text
-pub responded : (bytes : List ℕ) (got size : ℕ) (output output′ : List ℕ) (r : ℕ) → length bytes ≡ inputSize → length output ≡ outputSize → size ≡ min got (length bytes)
+pub responded : (bytes : List ℕ) (got size : ℕ) (output output′ : List ℕ) (r : ℕ) → length bytes ≡ inputSize → length output ≡ outputSize
+    → size ≡ min got (length bytes)
     → Listed (take size bytes) output output′ r → Responded bytes got output output′ r
 responded bytes got size output output′ r a b e l =
     let w = listed-whole l (omega arith) in

@@ -79,7 +79,8 @@ begins-length w s e = omega (arith, ap length (begins-split w s e) ∙ length-ap
 
 -- the comparison with a word, byte by byte
 module _ (w s : List ℕ) (at k : ℕ) where
-  pub begins-more : k < length w → at + k < length s → getD s (at + k) 0 ≡ getD w k 0 → beginsWith (drop (k + 1) w) (drop (at + (k + 1)) s) ≡ beginsWith (drop k w) (drop (at + k) s)
+  pub begins-more : k < length w → at + k < length s → getD s (at + k) 0 ≡ getD w k 0
+      → beginsWith (drop (k + 1) w) (drop (at + (k + 1)) s) ≡ beginsWith (drop k w) (drop (at + k) s)
   unfolding beginsWith
   begins-more h g e =
       let n : at + (k + 1) ≡ suc (at + k) = omega arith in
@@ -118,7 +119,8 @@ module _ (s : List ℕ) where
   unfolding digitLine
   digits-second h a b c = rw (lt-ltb 3 (length s) h) (sym (and-later _ _ a ∙ and-later _ _ (eq-eqb (getD s 1 0) blank b) ∙ and-first _ _ c))
 
-  pub digits-last : 4 ≤ length s → isDigit (getD s 0 0) ≡ true → getD s 1 0 ≡ blank → isDigit (getD s 2 0) ≡ true → eqb (getD s 3 0) newline ≡ digitLine s
+  pub digits-last :
+      4 ≤ length s → isDigit (getD s 0 0) ≡ true → getD s 1 0 ≡ blank → isDigit (getD s 2 0) ≡ true → eqb (getD s 3 0) newline ≡ digitLine s
   unfolding digitLine
   digits-last h a b c = rw (lt-ltb 3 (length s) h) (sym (and-later _ _ a ∙ and-later _ _ (eq-eqb (getD s 1 0) blank b) ∙ and-later _ _ c))
 

@@ -1,4 +1,5 @@
--- Laws of writing (specs/Writing.antt): the output's size stays, writing two texts one after the other is writing both, and the bytes fill the output from the position on.
+-- Laws of writing (specs/Writing.antt): the output's size stays, writing two texts one after the other is writing both, and the bytes fill the output
+-- from the position on.
 -- Assumes nothing.
 use Prim.Native.Nat.{ℕ, _+_, _≤_, _<_}
 use mathlib.Core.Path.{_≡_, refl, sym, ap, subst, _∙_}
@@ -31,7 +32,8 @@ position-append [] b size at = refl
 position-append (x ∷ a) b size at = position-append a b size (next size at)
 
 -- after the first part of what remains, the rest remains
-pub passed : {out₀ whole out out′ : List ℕ} {at₀ at r : ℕ} (a rest : List ℕ) → Remains out₀ at₀ whole out at (a ++ rest) → Writes out at a out′ r → Remains out₀ at₀ whole out′ r rest
+pub passed : {out₀ whole out out′ : List ℕ} {at₀ at r : ℕ} (a rest : List ℕ) → Remains out₀ at₀ whole out at (a ++ rest) → Writes out at a out′ r
+    → Remains out₀ at₀ whole out′ r rest
 passed {out₀} {whole} {out} {out′} {at₀} {at} {r} a rest m w = record {
   output = rw (w .output, w .end) (sym (written-append a rest out at) ∙ m .output);
   end = rw (w .end, writes-length w) (sym (position-append a rest (length out) at) ∙ m .end);
@@ -63,7 +65,8 @@ writes-none out at b h = record { output = sym (set-out out at b h); end = rw (l
 
 -- a word, byte by byte
 module _ (out₀ : List ℕ) (at₀ : ℕ) (word out : List ℕ) (at k : ℕ) where
-  pub word-more : {out′ : List ℕ} {r : ℕ} → k < length word → Remains out₀ at₀ word out at (drop k word) → Writes out at (getD word k 0 ∷ []) out′ r → Remains out₀ at₀ word out′ r (drop (k + 1) word)
+  pub word-more : {out′ : List ℕ} {r : ℕ} → k < length word → Remains out₀ at₀ word out at (drop k word) → Writes out at (getD word k 0 ∷ []) out′ r
+      → Remains out₀ at₀ word out′ r (drop (k + 1) word)
   word-more {out′} {r} h m w =
       let e : drop k word ≡ (getD word k 0 ∷ []) ++ drop (k + 1) word = rw (drop-cons word k 0 h, add-one k) refl in
       passed (getD word k 0 ∷ []) (drop (k + 1) word) (subst (λ (l : List ℕ). Remains out₀ at₀ word out at l) e m) w

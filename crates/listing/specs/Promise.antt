@@ -1,12 +1,13 @@
 -- The promises of the listing call and of the program's call: what the program prints for an input, and what is written of it. They rest on the rule call's
 -- promise: the listing is that of an answer and of four buffers for which that promise holds.
 -- Assumes nothing.
-use Prim.Native.Nat.{ℕ, suc, min}
+use Prim.Native.Nat.{ℕ, suc, _*_, min}
 use mathlib.Core.Path.{_≡_}
 use mathlib.Core.List.{List, _++_}
 use mathlib.Core.Logic.{_⊎_}
 use lib.ListN.{length, take, drop, replicate}
 use Rattle.plays.specs.declared.mode.Mode.{Mode}
+use Rattle.automaton.specs.Limits.{stateLimit, numberLimit, letterLimit}
 use Rattle.game.specs.declared.answer.Answer.{Answer}
 use Rattle.game.specs.Rule.{Buffers, buffers, RuleSolved}
 use Rattle.listing.specs.Input.{inputLimit, Asks}
@@ -14,7 +15,9 @@ use Rattle.listing.specs.Listing.{listing, malformed}
 
 -- the buffers that are lent: zeros, of the size that four inputs and four outputs need
 unfoldable pub lent : Buffers
-lent = buffers (replicate {A = ℕ} 32768 0) (replicate {A = ℕ} 128 0) (replicate {A = ℕ} 2048 0) (replicate {A = ℕ} 128 0)
+lent =
+    buffers (replicate {A = ℕ} (stateLimit * letterLimit) 0) (replicate {A = ℕ} stateLimit 0)
+    (replicate {A = ℕ} (stateLimit * numberLimit) 0) (replicate {A = ℕ} stateLimit 0)
 
 -- the text is the listing of what the rule call answers on a request
 pub record Answers (i o : ℕ) (mode : Mode) (condition rule text : List ℕ) : Type 0 where

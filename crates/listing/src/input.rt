@@ -4,6 +4,7 @@ ghost use mathlib.Core.Bool.{true, cond};
 ghost use Prim.Native.Nat.{_≤_, _<_};
 ghost use lib.ListN.{length, getD, drop};
 ghost use Rattle.listing.specs.inner.Scan.{beginsWith, lineEnd, isDigit, digitAt, digitLine, isFairLine, isStableLine, modeIn, conditionStart, hasTexts, isRequest};
+use crate::limits::INPUT_LIMIT;
 use plays::mode::Mode;
 
 // Whether the text from a place on begins with a word.
@@ -125,7 +126,7 @@ fn text_lines(input: &[u8], start: usize) -> bool
 pub(crate) fn is_request(input: &[u8]) -> bool
     ensures { λ r. ⌜ r ≡ isRequest (now (input .entry)) ⌝ }
 {
-    if 2048 < input.len() {
+    if INPUT_LIMIT < input.len() {
         return false;
     }
     if !digit_line(input) {

@@ -11,6 +11,9 @@ use crate::input::line_end;
 use crate::input::mode_of;
 use crate::render::put_listing;
 use crate::render::put_refusal;
+use automaton::limits::LETTER_LIMIT;
+use automaton::limits::NUMBER_LIMIT;
+use automaton::limits::STATE_LIMIT;
 use game::answer::Answer;
 use game::rule::solve_rule;
 
@@ -23,7 +26,10 @@ fn ask(
     environment: &mut [u8],
 ) -> Answer
     requires { ⌜ isRequest (now input) ≡ true ⌝ }
-    ensures { λ r. ⌜ RuleSolved (modeIn (now (input .entry))) (digitAt (now (input .entry)) 0) (digitAt (now (input .entry)) 2) (rulePart (now (input .entry)) (conditionStart (now (input .entry)))) (conditionPart (now (input .entry)) (conditionStart (now (input .entry)))) (buffers (now (transitions .entry)) (now (accepting .entry)) (now (system .entry)) (now (environment .entry))) (buffers (now (transitions .exit)) (now (accepting .exit)) (now (system .exit)) (now (environment .exit))) r ⌝ }
+    ensures { λ r. ⌜ RuleSolved (modeIn (now (input .entry))) (digitAt (now (input .entry)) 0) (digitAt (now (input .entry)) 2)
+        (rulePart (now (input .entry)) (conditionStart (now (input .entry)))) (conditionPart (now (input .entry)) (conditionStart (now (input .entry))))
+        (buffers (now (transitions .entry)) (now (accepting .entry)) (now (system .entry)) (now (environment .entry)))
+        (buffers (now (transitions .exit)) (now (accepting .exit)) (now (system .exit)) (now (environment .exit))) r ⌝ }
 {
     let start = condition_start(input);
     let end = line_end(input, start);
@@ -69,10 +75,10 @@ fn list_with(
 pub fn list(input: &[u8], output: &mut [u8]) -> usize
     ensures { λ r. ⌜ Listed (now (input .entry)) (now (output .entry)) (now (output .exit)) r ⌝ }
 {
-    let mut transitions = [0u8; 32768];
-    let mut accepting = [0u8; 128];
-    let mut system = [0u8; 2048];
-    let mut environment = [0u8; 128];
+    let mut transitions = [0u8; STATE_LIMIT * LETTER_LIMIT];
+    let mut accepting = [0u8; STATE_LIMIT];
+    let mut system = [0u8; STATE_LIMIT * NUMBER_LIMIT];
+    let mut environment = [0u8; STATE_LIMIT];
     list_with(
         input,
         output,

@@ -1,13 +1,14 @@
 // The lines of a listing.
 ghost use mathlib.Core.Path.{_≡_};
 ghost use mathlib.Core.List.{[], _∷_};
-ghost use Prim.Native.Nat.{_+_, _^_, _≤_, _<_};
+ghost use Prim.Native.Nat.{_+_, _*_, _^_, _≤_, _<_};
 ghost use lib.ListN.{getD};
+ghost use Rattle.automaton.specs.Limits.{stateLimit};
 ghost use Rattle.game.specs.Answer.{answerStates};
 ghost use Rattle.listing.specs.Decimal.{decimal};
 ghost use Rattle.listing.specs.Input.{blank};
 ghost use Rattle.listing.specs.Listing.{fields, goalMark, winnerFields, stateLine, stateLines, refusalLine, verdictLines};
-ghost use Rattle.listing.specs.inner.Rendering.{listingOf};
+ghost use Rattle.listing.specs.inner.Rendering.{listingOf, rowLimit};
 ghost use Rattle.listing.specs.inner.Writing.{Writes};
 use crate::write::put;
 use crate::write::put_decimal;
@@ -36,7 +37,7 @@ fn put_field(out: &mut [u8], at: usize, n: usize) -> usize
 
 // Writes so many bytes of a table from an index on, each after a blank.
 fn put_fields(out: &mut [u8], at: usize, table: &[u8], from: usize, count: usize) -> usize
-    requires { ⌜ from + count ≤ 65536 + 512 ⌝ }
+    requires { ⌜ from + count ≤ stateLimit * rowLimit + rowLimit ⌝ }
     ensures { λ r. ⌜ Writes (now (out .entry)) at (fields (now (table .entry)) from count) (now (out .exit)) r ⌝ }
 {
     let mut end = at;
@@ -67,7 +68,7 @@ fn put_winner(
     system: &[u8],
     environment: &[u8],
 ) -> usize
-    requires { ⌜ (s < 128) × (inputs ≤ 512) ⌝ }
+    requires { ⌜ (s < stateLimit) × (inputs ≤ rowLimit) ⌝ }
     ensures { λ r. ⌜ Writes (now (out .entry)) at (winnerFields inputs (now (system .entry)) (now (environment .entry)) s) (now (out .exit)) r ⌝ }
 {
     if byte_at(environment, s) == 255 {
@@ -88,8 +89,9 @@ fn put_state(
     system: &[u8],
     environment: &[u8],
 ) -> usize
-    requires { ⌜ (s < 128) × (inputs ≤ 512) ⌝ }
-    ensures { λ r. ⌜ Writes (now (out .entry)) at (stateLine inputs (now (accepting .entry)) (now (system .entry)) (now (environment .entry)) s) (now (out .exit)) r ⌝ }
+    requires { ⌜ (s < stateLimit) × (inputs ≤ rowLimit) ⌝ }
+    ensures { λ r. ⌜ Writes (now (out .entry)) at (stateLine inputs (now (accepting .entry)) (now (system .entry))
+        (now (environment .entry)) s) (now (out .exit)) r ⌝ }
 {
     let a = put_decimal(out, at, s);
     let b = put_mark(out, a, accepting, s);
@@ -107,8 +109,9 @@ fn put_states(
     system: &[u8],
     environment: &[u8],
 ) -> usize
-    requires { ⌜ (n ≤ 128) × (inputs ≤ 512) ⌝ }
-    ensures { λ r. ⌜ Writes (now (out .entry)) at (stateLines inputs (now (accepting .entry)) (now (system .entry)) (now (environment .entry)) 0 n) (now (out .exit)) r ⌝ }
+    requires { ⌜ (n ≤ stateLimit) × (inputs ≤ rowLimit) ⌝ }
+    ensures { λ r. ⌜ Writes (now (out .entry)) at (stateLines inputs (now (accepting .entry)) (now (system .entry))
+        (now (environment .entry)) 0 n) (now (out .exit)) r ⌝ }
 {
     let mut end = at;
     let mut s: usize = 0;
@@ -129,8 +132,9 @@ fn put_verdict(
     system: &[u8],
     environment: &[u8],
 ) -> usize
-    requires { ⌜ (n ≤ 128) × (inputs ≤ 512) ⌝ }
-    ensures { λ r. ⌜ Writes (now (out .entry)) 0 (verdictLines inputs (now (accepting .entry)) (now (system .entry)) (now (environment .entry)) (now (word .entry)) n) (now (out .exit)) r ⌝ }
+    requires { ⌜ (n ≤ stateLimit) × (inputs ≤ rowLimit) ⌝ }
+    ensures { λ r. ⌜ Writes (now (out .entry)) 0 (verdictLines inputs (now (accepting .entry)) (now (system .entry))
+        (now (environment .entry)) (now (word .entry)) n) (now (out .exit)) r ⌝ }
 {
     let a = put_word(out, 0, word);
     let b = put_decimal(out, a, n);
@@ -151,7 +155,7 @@ pub(crate) fn put_refusal(out: &mut [u8], refused: usize, index: usize) -> usize
 // The number of input numbers.
 fn input_count(i: usize) -> usize
     requires { ⌜ i ≤ 9 ⌝ }
-    ensures { λ r. ⌜ (r ≡ 2 ^ i) × (r ≤ 512) ⌝ }
+    ensures { λ r. ⌜ (r ≡ 2 ^ i) × (r ≤ rowLimit) ⌝ }
 {
     1 << i
 }
@@ -165,8 +169,9 @@ pub(crate) fn put_listing(
     system: &[u8],
     environment: &[u8],
 ) -> usize
-    requires { ⌜ (i ≤ 9) × (answerStates answer ≤ 128) ⌝ }
-    ensures { λ r. ⌜ Writes (now (out .entry)) 0 (listingOf i (now (accepting .entry)) (now (system .entry)) (now (environment .entry)) answer) (now (out .exit)) r ⌝ }
+    requires { ⌜ (i ≤ 9) × (answerStates answer ≤ stateLimit) ⌝ }
+    ensures { λ r. ⌜ Writes (now (out .entry)) 0 (listingOf i (now (accepting .entry)) (now (system .entry))
+        (now (environment .entry)) answer) (now (out .exit)) r ⌝ }
 {
     match answer {
         Answer::Can(n) => {

@@ -2,13 +2,9 @@
 ghost use mathlib.Core.Path.{_≡_};
 ghost use Prim.Native.Nat.{min};
 ghost use Rattle.listing.specs.Promise.{Responded};
+use crate::limits::INPUT_SIZE;
+use crate::limits::OUTPUT_SIZE;
 use crate::list::list;
-
-// One byte more than an input may have, so that a longer one is seen as such.
-pub const INPUT_SIZE: usize = 2049;
-
-// Room for the longest text that is printed.
-pub const OUTPUT_SIZE: usize = 8192;
 
 // The smaller of two numbers.
 fn least(a: usize, b: usize) -> usize

@@ -12,10 +12,11 @@ use native.Mathlib.Omega.{arith}
 use native.Mathlib.Nat.{suc-mul}
 use lib.ListN.{length, take, drop, take-append-drop, length-drop}
 use lib.Seq.{length-take-le}
+use Rattle.machine.specs.Run.{run}
 use Rattle.plays.specs.declared.mode.Mode.{Mode}
 use Rattle.plays.specs.declared.mode.Mode.the-variants.{Fair, Stable}
 use Rattle.plays.specs.Arena.{Arena, goal, holds, lacks}
-use Rattle.plays.specs.Play.{Step, entered, run, reaches, Along, count, Every, InRow}
+use Rattle.plays.specs.Play.{Step, entered, reaches, Along, count, Every, InRow}
 use Rattle.plays.specs.Strategy.{systemByte, environmentByte, BySystem, ByEnvironment, Assumed, Failed, SystemWins, EnvironmentWins}
 use Rattle.reader.proofs.BoolLaws.{on, clash, or-left}
 use Rattle.plays.proofs.PlayLaws.{reaches-later, row-later, row-first, count-append}

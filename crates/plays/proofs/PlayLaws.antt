@@ -7,9 +7,10 @@ use mathlib.Core.List.{List, [], _∷_, _++_, append-assoc}
 use mathlib.Core.Logic.{⊎-elim}
 use native.Mathlib.Omega.{arith}
 use lib.ListN.{length, take}
+use Rattle.machine.specs.Run.{run}
 use Rattle.automaton.specs.Alphabet.{letterOf}
 use Rattle.plays.specs.Arena.{Arena, goal}
-use Rattle.plays.specs.Play.{Step, entered, run, reaches, letters, Along, count, Every, InRow}
+use Rattle.plays.specs.Play.{Step, entered, standsOn, reaches, letters, Along, count, Every, InRow}
 use Rattle.reader.proofs.BoolLaws.{on, or-left, or-right, or-cases, or-true}
 
 -- ---- a play taken apart
@@ -21,7 +22,7 @@ module _ (G : Arena) (R : ℕ → Step → Type 0) where
   along-left s [] q h = tt
   along-left s (a ∷ p) q h = (h .0, along-left (entered G s a) p q (h .1))
 
-  pub along-right : (s : ℕ) (p q : List Step) → Along G R s (p ++ q) → Along G R (run G s p) q
+  pub along-right : (s : ℕ) (p q : List Step) → Along G R s (p ++ q) → Along G R (standsOn G s p) q
   unfolding Along run
   along-right s [] q h = h
   along-right s (a ∷ p) q h = along-right (entered G s a) p q (h .1)
@@ -41,7 +42,7 @@ module _ (G : Arena) where
   avoids-left s [] q e = refl
   avoids-left s (a ∷ p) q e = rw (first-avoids s a (p ++ q) e) (avoids-left (entered G s a) p q (others-avoid s a (p ++ q) e))
 
-  pub avoids-right : (s : ℕ) (p q : List Step) → reaches G s (p ++ q) ≡ false → reaches G (run G s p) q ≡ false
+  pub avoids-right : (s : ℕ) (p q : List Step) → reaches G s (p ++ q) ≡ false → reaches G (standsOn G s p) q ≡ false
   unfolding run
   avoids-right s [] q e = e
   avoids-right s (a ∷ p) q e = avoids-right (entered G s a) p q (others-avoid s a (p ++ q) e)
@@ -67,7 +68,7 @@ module _ (G : Arena) where
   take-letters (a ∷ p) (suc k) = ap (λ (w : List ℕ). letterOf (G .inputs) (a .input) (a .output) ∷ w) (take-letters p k)
 
   -- a play reaches a goal exactly when some beginning of it stands on one
-  pub reaches-beginning : (s : ℕ) (p : List Step) → reaches G s p ≡ true → (k : ℕ) × (0 < k) × (k ≤ length p) × (goal G (run G s (take k p)) ≡ true)
+  pub reaches-beginning : (s : ℕ) (p : List Step) → reaches G s p ≡ true → (k : ℕ) × (0 < k) × (k ≤ length p) × (goal G (standsOn G s (take k p)) ≡ true)
   unfolding reaches run
   reaches-beginning s [] e = absurd (mathlib.Core.Bool.false≢true e)
   reaches-beginning s (a ∷ p) e =
@@ -76,7 +77,7 @@ module _ (G : Arena) where
       (λ h. let w = reaches-beginning (entered G s a) p h in (suc (w .0), omega arith, omega (arith, w .2), w .3))
       (or-cases (goal G (entered G s a)) (reaches G (entered G s a) p) e)
 
-  pub beginning-reaches : (s : ℕ) (p : List Step) (k : ℕ) → 0 < k → k ≤ length p → goal G (run G s (take k p)) ≡ true → reaches G s p ≡ true
+  pub beginning-reaches : (s : ℕ) (p : List Step) (k : ℕ) → 0 < k → k ≤ length p → goal G (standsOn G s (take k p)) ≡ true → reaches G s p ≡ true
   unfolding reaches run
   beginning-reaches s p zero z l g = absurd (let z : ⊥ = omega arith in z)
   beginning-reaches s [] (suc k) z l g = absurd (let z : ⊥ = omega arith in z)

@@ -8,8 +8,9 @@ use mathlib.Core.List.{List, [], _∷_, _++_}
 use mathlib.Core.Logic.{_⊎_, ⊎-elim}
 use native.Mathlib.Omega.{arith}
 use lib.ListN.{length, getD}
+use Rattle.machine.specs.Run.{run}
 use Rattle.plays.specs.Arena.{Arena, next, goal}
-use Rattle.plays.specs.Play.{Step, entered, run, reaches, Along, count, Every, InRow}
+use Rattle.plays.specs.Play.{Step, entered, standsOn, reaches, Along, count, Every, InRow}
 use Rattle.plays.specs.Strategy.{systemByte, environmentByte, BySystem, ByEnvironment, Assumed, Failed, SystemWins, EnvironmentWins}
 use Rattle.plays.specs.inner.Rank.{modeOf, judged, Safe, Falls, AllowedOutput, AllowedInput}
 use Rattle.reader.proofs.BoolLaws.{decided, clash, not-false-is-true}
@@ -29,7 +30,7 @@ module _ (G : Arena) (R : ℕ → Step → Type 0) (player steady : Bool) (r : L
     (falls : (s : ℕ) (a : Step) → 0 < getD r s 0 → R s a → goal G (entered G s a) ≡ false → Falls G player steady r s (a .input) (entered G s a))
     (bound : (s : ℕ) → getD r s 0 ≤ G .states) where
   -- a play that reaches no goal stands on a state with a rank
-  pub stays : (s : ℕ) (p : List Step) → 0 < getD r s 0 → Along G R s p → reaches G s p ≡ false → 0 < getD r (run G s p) 0
+  pub stays : (s : ℕ) (p : List Step) → 0 < getD r s 0 → Along G R s p → reaches G s p ≡ false → 0 < getD r (standsOn G s p) 0
   unfolding Along run
   stays s [] w h e = w
   stays s (a ∷ p) w h e =
@@ -37,7 +38,7 @@ module _ (G : Arena) (R : ℕ → Step → Type 0) (player steady : Bool) (r : L
 
   -- steps all of which are judged take as much off the rank as they are many
   pub row-falls : (s : ℕ) (p : List Step) → 0 < getD r s 0 → Along G R s p → reaches G s p ≡ false → Every (judged G player) p
-      → length p + getD r (run G s p) 0 ≤ getD r s 0
+      → length p + getD r (standsOn G s p) 0 ≤ getD r s 0
   unfolding Along run Every
   row-falls s [] w h e v = omega arith
   row-falls s (a ∷ p) w h e v =
@@ -47,7 +48,7 @@ module _ (G : Arena) (R : ℕ → Step → Type 0) (player steady : Bool) (r : L
 
   -- and so do the judged ones among others, where the ranks are steady
   pub count-falls : steady ≡ true → (s : ℕ) (p : List Step) → 0 < getD r s 0 → Along G R s p → reaches G s p ≡ false
-      → count (judged G player) p + getD r (run G s p) 0 ≤ getD r s 0
+      → count (judged G player) p + getD r (standsOn G s p) 0 ≤ getD r s 0
   unfolding Along run count
   count-falls t s [] w h e = omega arith
   count-falls t s (a ∷ p) w h e =
@@ -59,7 +60,7 @@ module _ (G : Arena) (R : ℕ → Step → Type 0) (player steady : Bool) (r : L
   no-row s p w h e v =
       let h′ : Along G R s (v .before ++ (v .row ++ v .rest)) = subst (λ q. Along G R s q) (v .whole) h in
       let e′ : reaches G s (v .before ++ (v .row ++ v .rest)) ≡ false = subst (λ q. reaches G s q ≡ false) (v .whole) e in
-      let s₁ : ℕ = run G s (v .before) in
+      let s₁ : ℕ = standsOn G s (v .before) in
       let w₁ = stays s (v .before) w (along-left G R s (v .before) (v .row ++ v .rest) h′) (avoids-left G s (v .before) (v .row ++ v .rest) e′) in
       let h₁ = along-left G R s₁ (v .row) (v .rest) (along-right G R s (v .before) (v .row ++ v .rest) h′) in
       let e₁ = avoids-left G s₁ (v .row) (v .rest) (avoids-right G s (v .before) (v .row ++ v .rest) e′) in
@@ -100,7 +101,7 @@ module _ (fair : Bool) (G : Arena) (σ r : List ℕ) (bound : (s : ℕ) → getD
       record {
         reaching = λ p h o. not-false-is-true (reaches G s p)
             (λ e. not-often G (BySystem G σ) true fair r system-falls bound s p w h e (assumed-often fair G p o));
-        answers = λ p h e x l. allowed (run G s p) (stays G (BySystem G σ) true fair r system-falls bound s p w h e) x l .0;
+        answers = λ p h e x l. allowed (standsOn G s p) (stays G (BySystem G σ) true fair r system-falls bound s p w h e) x l .0;
       }
 
 -- the environment's table holds an input that the ranks allow for each state with a rank
@@ -126,5 +127,5 @@ module _ (fair : Bool) (G : Arena) (τ r : List ℕ) (bound : (s : ℕ) → getD
       record {
         avoiding = λ p h. avoids s p w h;
         keeping = λ p h o. not-often G (ByEnvironment G τ) false (not fair) r environment-falls bound s p w h (avoids s p w h) (failed-often fair G p o);
-        answers = λ p h. allowed (run G s p) (stays G (ByEnvironment G τ) false (not fair) r environment-falls bound s p w h (avoids s p w h)) .0;
+        answers = λ p h. allowed (standsOn G s p) (stays G (ByEnvironment G τ) false (not fair) r environment-falls bound s p w h (avoids s p w h)) .0;
       }

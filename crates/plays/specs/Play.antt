@@ -5,6 +5,7 @@ use mathlib.Core.Path.{_≡_}
 use mathlib.Core.Bool.{Bool, true, false, cond, _||_}
 use mathlib.Core.List.{List, [], _∷_, _++_}
 use lib.ListN.{length}
+use Rattle.machine.specs.Run.{run}
 use Rattle.automaton.specs.Alphabet.{letterOf}
 use Rattle.plays.specs.Arena.{State, Input, Output, Arena, next, goal}
 
@@ -21,10 +22,9 @@ Legal G a = (a .input < G .inputs) × (a .output < G .outputs)
 abbrev pub entered : Arena → State → Step → State
 entered G s a = next G s (a .input) (a .output)
 
--- the state that a play from s stands on after its last step
-unfoldable pub run : Arena → State → List Step → State
-run G s [] = s
-run G s (a ∷ p) = run G (entered G s a) p
+-- the state that a play from s stands on after its last step: the run of its steps
+abbrev pub standsOn : Arena → State → List Step → State
+standsOn G s p = run (entered G) s p
 
 -- whether some step of the play enters a goal; the state it starts from counts for nothing
 unfoldable pub reaches : Arena → State → List Step → Bool

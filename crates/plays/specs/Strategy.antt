@@ -9,7 +9,7 @@ use lib.ListN.{getD}
 use Rattle.plays.specs.declared.mode.Mode.{Mode}
 use Rattle.plays.specs.declared.mode.Mode.the-variants.{Fair, Stable}
 use Rattle.plays.specs.Arena.{State, Input, Arena, holds, lacks}
-use Rattle.plays.specs.Play.{Step, Legal, run, reaches, Along, count, InRow}
+use Rattle.plays.specs.Play.{Step, Legal, standsOn, reaches, Along, count, InRow}
 
 -- a strategy: the bytes of a table
 abbrev pub Table : Type 0
@@ -44,10 +44,11 @@ Failed Stable G p = G .states ≤ count (lacks G) p
 -- the system's strategy holds good from s: every play that follows it reaches a goal where it has to, and until then comes to no byte that is no output
 pub record SystemWins (mode : Mode) (G : Arena) (σ : Table) (s : State) : Type 0 where
   pub reaching : (p : List Step) → Along G (BySystem G σ) s p → Assumed mode G p → reaches G s p ≡ true
-  pub answers : (p : List Step) → Along G (BySystem G σ) s p → reaches G s p ≡ false → (x : Input) → x < G .inputs → systemByte G σ (run G s p) x < G .outputs
+  pub answers : (p : List Step) → Along G (BySystem G σ) s p → reaches G s p ≡ false → (x : Input) → x < G .inputs
+      → systemByte G σ (standsOn G s p) x < G .outputs
 
 -- the environment's strategy holds good from s: every play that follows it reaches no goal, keeps the assumption and comes to no byte that is no input
 pub record EnvironmentWins (mode : Mode) (G : Arena) (τ : Table) (s : State) : Type 0 where
   pub avoiding : (p : List Step) → Along G (ByEnvironment G τ) s p → reaches G s p ≡ false
   pub keeping : (p : List Step) → Along G (ByEnvironment G τ) s p → Failed mode G p → ⊥
-  pub answers : (p : List Step) → Along G (ByEnvironment G τ) s p → environmentByte τ (run G s p) < G .inputs
+  pub answers : (p : List Step) → Along G (ByEnvironment G τ) s p → environmentByte τ (standsOn G s p) < G .inputs

@@ -6,7 +6,7 @@ use mathlib.Core.Path.{_≡_}
 use mathlib.Core.List.{List, [], _∷_}
 use lib.ListN.{length}
 use Rattle.plays.specs.Arena.{State, Input, Output, Arena}
-use Rattle.plays.specs.Play.{Step, run}
+use Rattle.plays.specs.Play.{Step, standsOn}
 use Rattle.plays.specs.Strategy.{Table, systemByte, environmentByte}
 
 -- a way of the system: an output for the steps so far and the input
@@ -26,10 +26,10 @@ Inputs G α = (past : List Step) → α past < G .inputs
 
 -- the ways of two strategies, for plays from state s
 abbrev pub bySystem : Arena → Table → State → SystemWay
-bySystem G σ s past x = systemByte G σ (run G s past) x
+bySystem G σ s past x = systemByte G σ (standsOn G s past) x
 
 abbrev pub byEnvironment : Arena → Table → State → EnvironmentWay
-byEnvironment G τ s past = environmentByte τ (run G s past)
+byEnvironment G τ s past = environmentByte τ (standsOn G s past)
 
 -- an order of inputs that is fixed beforehand, an input for each step, is a way of the environment too
 abbrev pub ordered : (ℕ → Input) → EnvironmentWay

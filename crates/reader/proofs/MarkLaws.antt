@@ -13,10 +13,12 @@ use lib.Seq.{drop-cons}
 use borrow.Author.Tests.{eqb-true, eq-eqb, ne-eqb}
 use Rattle.reader.specs.declared.marks.Kind.{Kind}
 use Rattle.reader.specs.declared.marks.Kind.the-variants.{Operand, Prefix, Infix, Open, Close, Other}
-use Rattle.reader.specs.Formula.{Unary, neg, next, weak, eventually, always, Binary, until, release, conj, disj, impl, constant, name, size, withUnary, withBinary, operators}
+use Rattle.reader.specs.Limits.{operatorLimit}
+use Rattle.reader.specs.Formula.{Unary, neg, next, weak, eventually, always, Binary, until, release, conj, disj, impl}
+use Rattle.reader.specs.Formula.{constant, name, size, withUnary, withBinary, operators}
 use Rattle.reader.specs.Marks.{amongOf, markKind, isTemporalMark, allowedBy, kindIn, operandOf, unaryOf, binaryOf}
 use Rattle.reader.specs.inner.Nodes.{wordOf, code}
-use Rattle.reader.specs.inner.Words.{operandCode, operandArgument, nodeOf}
+use Rattle.reader.specs.inner.Words.{argumentLimit, operandCode, operandArgument, nodeOf}
 use Rattle.reader.specs.inner.Counts.{tick}
 
 -- ---- membership
@@ -110,7 +112,13 @@ kind-facts b =
               input-byte 99 (omega arith) (omega arith),
               (
                 input-byte 100 (omega arith) (omega arith),
-                (output-byte 112 (omega arith) (omega arith), (output-byte 113 (omega arith) (omega arith), (output-byte 114 (omega arith) (omega arith), (output-byte 115 (omega arith) (omega arith), tt)))),
+                (
+                  output-byte 112 (omega arith) (omega arith),
+                  (
+                    output-byte 113 (omega arith) (omega arith),
+                    (output-byte 114 (omega arith) (omega arith), (output-byte 115 (omega arith) (omega arith), tt)),
+                  ),
+                ),
               ),
             ),
           ),
@@ -183,18 +191,20 @@ module _ (i b k : ℕ) where
   unfolding operandOf code operandCode operandArgument
   operand-code n = go (eqb b 48) (eqb b 49) (leb b 100)
     where
-      go : (x y z : Bool) → code n k (cond x (constant false) (cond y (constant true) (cond z (name (b - 97)) (name (i + (b - 112)))))) ≡ wordOf (cond x 0 (cond y 1 2)) 0 (cond x k (cond y k (cond z (b - 97) (i + (b - 112))))) ∷ []
+      go : (x y z : Bool)
+          → code n k (cond x (constant false) (cond y (constant true) (cond z (name (b - 97)) (name (i + (b - 112))))))
+          ≡ wordOf (cond x 0 (cond y 1 2)) 0 (cond x k (cond y k (cond z (b - 97) (i + (b - 112))))) ∷ []
       go true y z = refl
       go false true z = refl
       go false false true = refl
       go false false false = refl
 
   -- an argument is small where i is a byte
-  pub argument-small : markKind b ≡ Operand → i < 256 → k ≤ 64 → operandArgument i b k ≤ 510
+  pub argument-small : markKind b ≡ Operand → i < 256 → k ≤ operatorLimit + 1 → operandArgument i b k ≤ argumentLimit
   unfolding operandArgument
   argument-small e h g = go (eqb b 48) (eqb b 49) (leb b 100) (operand-byte b e)
     where
-      go : (x y z : Bool) → OperandByte b → cond x k (cond y k (cond z (b - 97) (i + (b - 112)))) ≤ 510
+      go : (x y z : Bool) → OperandByte b → cond x k (cond y k (cond z (b - 97) (i + (b - 112)))) ≤ argumentLimit
       go true y z w = omega arith
       go false true z w = omega arith
       go false false true w = ⊎-elim (λ w. omega arith) (λ w. ⊎-elim (λ w. omega arith) (λ w. omega arith) w) w

@@ -16,7 +16,8 @@ sets-append (x ∷ xs) ys l i = sets-append xs ys (set l i x) (suc i) ∙ ap (λ
 sets-one : (out X : List ℕ) (W n a : ℕ) → length X ≡ a → sets out n (X ++ (W ∷ [])) ≡ set (sets out n X) (n + a) W
 sets-one out X W n a e = rw (← e) (sets-append X (W ∷ []) out n)
 
-sets-two : (out X Y : List ℕ) (W n a b : ℕ) → length X ≡ a → length Y ≡ b → sets out n (X ++ (Y ++ (W ∷ []))) ≡ set (sets (sets out n X) (n + a) Y) (n + a + b) W
+sets-two : (out X Y : List ℕ) (W n a b : ℕ) → length X ≡ a → length Y ≡ b
+    → sets out n (X ++ (Y ++ (W ∷ []))) ≡ set (sets (sets out n X) (n + a) Y) (n + a + b) W
 sets-two out X Y W n a b e f = rw (← e, ← f) (sets-append X (Y ++ (W ∷ [])) out n ∙ sets-append Y (W ∷ []) (sets out n X) (n + length X))
 
 pub size-pos : (φ : Formula) → 0 < size φ
@@ -56,17 +57,21 @@ code-length (binary b φ ψ) n k =
     ∙ omega (arith, code-length φ n k, length-append (code m (withBinary b j) ψ) (wordOf (binaryCode b) m j ∷ []), code-length ψ m (withBinary b j))
 
 -- the words of both operands and then the operator's are those of the formula
-pub code-binary : (n k : ℕ) (b : Binary) (α β : Formula) (out out₁ out₂ out₃ : List ℕ) → out₁ ≡ sets out n (code n k α) → out₂ ≡ sets out₁ (n + size α) (code (n + size α) (withBinary b (k + operators α)) β) → out₃ ≡ set out₂ (n + size α + size β) (wordOf (binaryCode b) (n + size α) (k + operators α)) → out₃ ≡ sets out n (code n k (binary b α β))
+pub code-binary : (n k : ℕ) (b : Binary) (α β : Formula) (out out₁ out₂ out₃ : List ℕ) → out₁ ≡ sets out n (code n k α)
+    → out₂ ≡ sets out₁ (n + size α) (code (n + size α) (withBinary b (k + operators α)) β)
+    → out₃ ≡ set out₂ (n + size α + size β) (wordOf (binaryCode b) (n + size α) (k + operators α)) → out₃ ≡ sets out n (code n k (binary b α β))
 unfolding code
 code-binary n k b α β out out₁ out₂ out₃ e f g =
     let m = n + size α in
     let j = k + operators α in
     g
     ∙ ap (λ (o : List ℕ). set o (m + size β) (wordOf (binaryCode b) m j)) (f ∙ ap (λ (o : List ℕ). sets o m (code m (withBinary b j) β)) e)
-    ∙ sym (sets-two out (code n k α) (code m (withBinary b j) β) (wordOf (binaryCode b) m j) n (size α) (size β) (code-length α n k) (code-length β m (withBinary b j)))
+    ∙ sym (sets-two out (code n k α) (code m (withBinary b j) β) (wordOf (binaryCode b) m j) n (size α) (size β) (code-length α n k)
+    (code-length β m (withBinary b j)))
 
 -- the words of the operand and then the operator's are those of the formula
-pub code-unary : (n k : ℕ) (u : Unary) (α : Formula) (out out₁ out₂ : List ℕ) → out₁ ≡ sets out n (code n (withUnary u k) α) → out₂ ≡ set out₁ (n + size α) (wordOf (unaryCode u) 0 k) → out₂ ≡ sets out n (code n k (unary u α))
+pub code-unary : (n k : ℕ) (u : Unary) (α : Formula) (out out₁ out₂ : List ℕ) → out₁ ≡ sets out n (code n (withUnary u k) α)
+    → out₂ ≡ set out₁ (n + size α) (wordOf (unaryCode u) 0 k) → out₂ ≡ sets out n (code n k (unary u α))
 unfolding code
 code-unary n k u α out out₁ out₂ e f =
     f

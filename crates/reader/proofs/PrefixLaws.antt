@@ -10,17 +10,18 @@ use lib.Seq.{sets}
 use Rattle.reader.specs.declared.marks.Kind.{Kind}
 use Rattle.reader.specs.declared.marks.Kind.the-variants.{Operand, Prefix, Open, Close}
 use Rattle.reader.specs.declared.levels.Pos.{Pos}
+use Rattle.reader.specs.Limits.{nodeLimit, operatorLimit}
 use Rattle.reader.specs.Formula.{Formula, unary, size, operators, withUnary}
 use Rattle.reader.specs.Marks.{markKind, unaryOf}
 use Rattle.reader.specs.Grammar.{withoutBlanks, Derives, operand, prefix, parens}
 use Rattle.reader.specs.inner.Nodes.{unaryCode, wordOf, code}
-use Rattle.reader.specs.inner.Words.{nodeOf}
+use Rattle.reader.specs.inner.Words.{nodeOf, nodeAt}
 use Rattle.reader.specs.inner.Steps.{NotBlank, PastMark, isOpen, isPrefix, CanFollow, Readable, Parsed, Consumed}
 use Rattle.reader.proofs.MarkLaws.{operand-size, operand-operators, operand-code, prefix-tick}
 use Rattle.reader.proofs.NodeLaws.{size-pos, size-unary, operators-unary, code-unary}
 use Rattle.reader.proofs.TextLaws.{inside}
 use Rattle.reader.proofs.FollowLaws.{follow-close}
-use Rattle.reader.proofs.InfixLaws.{coordinate-small}
+use Rattle.reader.proofs.InfixLaws.{measure, Falling, coordinate-small}
 
 -- a test of kinds has the same answer on equal bytes
 same-test : (test : Kind → Bool) (x y : ℕ) (k : Kind) (t : Bool) → x ≡ y → markKind y ≡ k → test (markKind x) ≡ t → test k ≡ t
@@ -73,7 +74,7 @@ module _ (i : ℕ) {text : List ℕ} {p q : Pos} (mark : PastMark text p q) wher
       readable-held : Held (r .rest) (r .formula)
       readable-held = held (r .taken) (r .rest) (r .formula) (r .derived) (r .here)
 
-      pub within : Readable i 4 text (inner p q) room
+      within : Readable i 4 text (inner p q) room
       within =
           let h = readable-held in
           record {
@@ -89,12 +90,15 @@ module _ (i : ℕ) {text : List ℕ} {p q : Pos} (mark : PastMark text p q) wher
             small = r .small;
           }
 
+      pub held-ready : {t : ℕ} → measure text p 0 ≡ t → Falling t i 4 text (inner p q) room
+      held-ready e = (omega (arith, mark .past, mark .within), within)
+
       -- what they hold has been read up to z
       module _ {out : List ℕ} {z : Pos} {out₁ : List ℕ} (k : Consumed i 4 text (inner p q) out z out₁) where
         held-parsed : (rest : List ℕ) (φ : Formula) (h : Held rest φ) → Parsed text (inner p q) out z out₁ (h .b ∷ rest) φ
         held-parsed rest φ h = k .reads (h .v) (h .b ∷ rest) φ (h .here) (h .derived) (follow-close 4 (h .b) rest (h .close))
 
-        pub close-ready : NotBlank text (z .at) × ((z .at < length text) × (z .coordinate ≤ 64))
+        pub close-ready : NotBlank text (z .at) × ((z .at < length text) × (z .coordinate ≤ operatorLimit + 1))
         close-ready =
             let h = readable-held in
             (k .no-blank, (inside text (z .at) (h .b) (r .rest) (held-parsed (r .rest) (r .formula) h .left), coordinate-small within k))
@@ -103,7 +107,8 @@ module _ (i : ℕ) {text : List ℕ} {p q : Pos} (mark : PastMark text p q) wher
         pub wrapped : {s : Pos} → PastMark text z s → Consumed i 0 text p out (closed z s) out₁
         wrapped {s} close = record { past = omega (arith, mark .past, k .past, close .past); within = close .within; no-blank = close .no-blank; reads = go }
           where
-            go : (w rest : List ℕ) (φ : Formula) → withoutBlanks (drop (p .at) text) ≡ w ++ rest → Derives i markKind 0 w φ → CanFollow 0 rest → Parsed text p out (closed z s) out₁ rest φ
+            go : (w rest : List ℕ) (φ : Formula) → withoutBlanks (drop (p .at) text) ≡ w ++ rest → Derives i markKind 0 w φ
+                → CanFollow 0 rest → Parsed text p out (closed z s) out₁ rest φ
             go w rest φ e x c =
                 let h = held w rest φ x e in
                 let m = held-parsed rest φ h in
@@ -126,7 +131,14 @@ module _ (i : ℕ) {text : List ℕ} {p q : Pos} (mark : PastMark text p q) wher
     bound : (w rest : List ℕ) (φ : Formula) → Derives i markKind 0 w φ → withoutBlanks (drop (p .at) text) ≡ w ++ rest → Bound rest φ
     bound w rest φ (operand {b = b} k eφ) e = absurd (true≢false (sym (same-test isPrefix _ b Operand true (head b _ e) k binds)))
     bound w rest φ (prefix {b = b} {w = v} {φ = α} k x eφ) e =
-        record { v = v; α = α; kind = ap markKind (head b _ e) ∙ k; here = tail b _ e; derived = x; whole = eφ ∙ ap (λ (y : ℕ). unary (unaryOf y) α) (sym (head b _ e)) }
+        record {
+          v = v;
+          α = α;
+          kind = ap markKind (head b _ e) ∙ k;
+          here = tail b _ e;
+          derived = x;
+          whole = eφ ∙ ap (λ (y : ℕ). unary (unaryOf y) α) (sym (head b _ e));
+        }
     bound w rest φ (parens {a = a} ka kb x) e = absurd (true≢false (sym (same-test isPrefix _ a Open true (head a _ e) ka binds)))
 
     -- the formula at p can be read
@@ -134,7 +146,7 @@ module _ (i : ℕ) {text : List ℕ} {p q : Pos} (mark : PastMark text p q) wher
       readable-bound : Bound (r .rest) (r .formula)
       readable-bound = bound (r .taken) (r .rest) (r .formula) (r .derived) (r .here)
 
-      pub below : Readable i 0 text q room
+      below : Readable i 0 text q room
       below =
           let h = readable-bound in
           let b = getD text (p .at) 0 in
@@ -153,9 +165,13 @@ module _ (i : ℕ) {text : List ℕ} {p q : Pos} (mark : PastMark text p q) wher
             small = r .small;
           }
 
+      pub bound-ready : {t : ℕ} → measure text p 0 ≡ t → Falling t i 0 text q room
+      bound-ready e = (omega (arith, mark .past, mark .within), below)
+
       -- the operand has been read up to z
       module _ {out : List ℕ} {z : Pos} {out₁ : List ℕ} (k : Consumed i 0 text q out z out₁) where
-        pub prefix-ready : {now-room : ℕ} → now-room ≡ room → (p .at < length text) × ((0 ≤ 64) × ((p .coordinate ≤ 64) × (z .nodes < now-room)))
+        pub prefix-ready : {now-room : ℕ} → now-room ≡ room
+            → (p .at < length text) × ((0 ≤ nodeLimit) × ((p .coordinate ≤ operatorLimit + 1) × (z .nodes < now-room)))
         prefix-ready e =
             let h = readable-bound in
             let n = k .reads (h .v) (r .rest) (h .α) (h .here) (h .derived) (r .follows) in
@@ -163,11 +179,19 @@ module _ (i : ℕ) {text : List ℕ} {p q : Pos} (mark : PastMark text p q) wher
             (starts r, (omega arith, (omega (arith, r .few), omega (arith, n .nodes, mark .nodes, r .fits))))
 
         -- with the operator's node written, the formula has been read
-        pub prefixed : {s : Pos} {out₂ : List ℕ} → (s .at ≡ z .at) × ((s .nodes ≡ z .nodes + 1) × (s .coordinate ≡ z .coordinate)) → out₂ ≡ set out₁ (z .nodes) (nodeOf i (getD text (p .at) 0) 0 (p .coordinate) (markKind (getD text (p .at) 0))) → Consumed i 0 text p out s out₂
+        pub prefixed : {s : Pos} {out₂ : List ℕ} → (s .at ≡ z .at) × ((s .nodes ≡ z .nodes + 1) × (s .coordinate ≡ z .coordinate))
+            → out₂ ≡ set out₁ (z .nodes) (nodeAt i text (p .at) 0 (p .coordinate)) → Consumed i 0 text p out s out₂
         unfolding size operators
-        prefixed {s} {out₂} es eo = record { past = omega (arith, es .0, mark .past, k .past); within = omega (arith, es .0, k .within); no-blank = rw (es .0) (k .no-blank); reads = go }
+        prefixed {s} {out₂} es eo =
+            record {
+              past = omega (arith, es .0, mark .past, k .past);
+              within = omega (arith, es .0, k .within);
+              no-blank = rw (es .0) (k .no-blank);
+              reads = go;
+            }
           where
-            go : (w rest : List ℕ) (φ : Formula) → withoutBlanks (drop (p .at) text) ≡ w ++ rest → Derives i markKind 0 w φ → CanFollow 0 rest → Parsed text p out s out₂ rest φ
+            go : (w rest : List ℕ) (φ : Formula) → withoutBlanks (drop (p .at) text) ≡ w ++ rest → Derives i markKind 0 w φ
+                → CanFollow 0 rest → Parsed text p out s out₂ rest φ
             go w rest φ e x c =
                 let h = bound w rest φ x e in
                 let n = k .reads (h .v) rest (h .α) (h .here) (h .derived) c in
@@ -176,7 +200,8 @@ module _ (i : ℕ) {text : List ℕ} {p q : Pos} (mark : PastMark text p q) wher
                 let n₂ : z .nodes ≡ p .nodes + size (h .α) = omega (arith, n .nodes) in
                 let k₁ : q .coordinate ≡ withUnary (unaryOf b) (p .coordinate) = omega (arith, mark .coordinate, prefix-tick b (h .kind) (p .coordinate)) in
                 let w₁ : out₁ ≡ sets out (q .nodes) (code (q .nodes) (q .coordinate) (h .α)) = n .written in
-                let w₂ : nodeOf i b 0 (p .coordinate) (markKind b) ≡ wordOf (unaryCode (unaryOf b)) 0 (p .coordinate) = ap (nodeOf i b 0 (p .coordinate)) (h .kind) in
+                let w₂ : nodeOf i b 0 (p .coordinate) (markKind b) ≡ wordOf (unaryCode (unaryOf b)) 0 (p .coordinate) =
+                ap (nodeOf i b 0 (p .coordinate)) (h .kind) in
                 subst (λ (χ : Formula). Parsed text p out s out₂ rest χ) (sym (h .whole)) (record {
                   left = ap (λ (j : ℕ). withoutBlanks (drop j text)) (es .0) ∙ n .left;
                   nodes = omega (arith, es .1 .0);
@@ -186,24 +211,31 @@ module _ (i : ℕ) {text : List ℕ} {p q : Pos} (mark : PastMark text p q) wher
 
   -- ---- an operand
 
-  pub operand-ready : {room : ℕ} → Readable i 0 text p room → (p .at < length text) × ((0 ≤ 64) × ((p .coordinate ≤ 64) × (q .nodes < room)))
+  pub operand-ready : {room : ℕ} → Readable i 0 text p room
+      → (p .at < length text) × ((0 ≤ nodeLimit) × ((p .coordinate ≤ operatorLimit + 1) × (q .nodes < room)))
   operand-ready r = (starts r, (omega arith, (omega (arith, r .few), omega (arith, size-pos (r .formula), r .fits, mark .nodes))))
 
   -- with its node written, it has been read
-  pub single : isOpen (markKind (getD text (p .at) 0)) ≡ false → isPrefix (markKind (getD text (p .at) 0)) ≡ false → {out : List ℕ} {s : Pos} {out₁ : List ℕ} → (s .at ≡ q .at) × ((s .nodes ≡ q .nodes + 1) × (s .coordinate ≡ p .coordinate)) → out₁ ≡ set out (q .nodes) (nodeOf i (getD text (p .at) 0) 0 (p .coordinate) (markKind (getD text (p .at) 0))) → Consumed i 0 text p out s out₁
-  single no-open no-prefix {out} {s} {out₁} es eo = record { past = omega (arith, es .0, mark .past); within = omega (arith, es .0, mark .within); no-blank = rw (es .0) (mark .no-blank); reads = go }
+  pub single : isOpen (markKind (getD text (p .at) 0)) ≡ false → isPrefix (markKind (getD text (p .at) 0)) ≡ false
+      → {out : List ℕ} {s : Pos} {out₁ : List ℕ} → (s .at ≡ q .at) × ((s .nodes ≡ q .nodes + 1) × (s .coordinate ≡ p .coordinate))
+      → out₁ ≡ set out (q .nodes) (nodeAt i text (p .at) 0 (p .coordinate)) → Consumed i 0 text p out s out₁
+  single no-open no-prefix {out} {s} {out₁} es eo =
+      record { past = omega (arith, es .0, mark .past); within = omega (arith, es .0, mark .within); no-blank = rw (es .0) (mark .no-blank); reads = go }
     where
-      go : (w rest : List ℕ) (φ : Formula) → withoutBlanks (drop (p .at) text) ≡ w ++ rest → Derives i markKind 0 w φ → CanFollow 0 rest → Parsed text p out s out₁ rest φ
+      go : (w rest : List ℕ) (φ : Formula) → withoutBlanks (drop (p .at) text) ≡ w ++ rest → Derives i markKind 0 w φ → CanFollow 0 rest
+          → Parsed text p out s out₁ rest φ
       go w rest φ e (operand {b = b} k eφ) c =
           let k₀ = p .coordinate in
           let n₁ : q .nodes ≡ p .nodes = mark .nodes in
           let eb : getD text (p .at) 0 ≡ b = head b _ e in
-          let w₁ : nodeOf i (getD text (p .at) 0) 0 k₀ (markKind (getD text (p .at) 0)) ≡ nodeOf i b 0 k₀ Operand = ap (λ (y : ℕ). nodeOf i y 0 k₀ (markKind y)) eb ∙ ap (nodeOf i b 0 k₀) k in
+          let w₁ : nodeOf i (getD text (p .at) 0) 0 k₀ (markKind (getD text (p .at) 0)) ≡ nodeOf i b 0 k₀ Operand =
+          ap (λ (y : ℕ). nodeOf i y 0 k₀ (markKind y)) eb ∙ ap (nodeOf i b 0 k₀) k in
           subst (λ (χ : Formula). Parsed text p out s out₁ rest χ) (sym eφ) (record {
             left = ap (λ (j : ℕ). withoutBlanks (drop j text)) (es .0) ∙ tail b _ e;
             nodes = omega (arith, es .1 .0, operand-size i b k₀);
             coordinate = omega (arith, es .1 .1, operand-operators i b k₀);
-            written = eo ∙ (ap (λ (y : ℕ). set out (q .nodes) y) w₁ ∙ (ap (λ (j : ℕ). set out j (nodeOf i b 0 k₀ Operand)) n₁ ∙ ap (λ (y : List ℕ). sets out (p .nodes) y) (sym (operand-code i b k₀ (p .nodes)))));
+            written = eo ∙ (ap (λ (y : ℕ). set out (q .nodes) y) w₁
+                ∙ (ap (λ (j : ℕ). set out j (nodeOf i b 0 k₀ Operand)) n₁ ∙ ap (λ (y : List ℕ). sets out (p .nodes) y) (sym (operand-code i b k₀ (p .nodes)))));
           })
       go w rest φ e (prefix {b = b} k x eφ) c = absurd (true≢false (same-test isPrefix _ b Prefix false (head b _ e) k no-prefix))
       go w rest φ e (parens {a = a} ka kb x) c = absurd (true≢false (same-test isOpen _ a Open false (head a _ e) ka no-open))

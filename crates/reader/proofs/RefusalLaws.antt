@@ -1,7 +1,7 @@
 -- Laws of refusals (specs/Refusal.antt): which of them differ, and what a reading that is not good is refused by.
 -- Assumes nothing.
 use Prim.Native.Nat.{ℕ}
-use mathlib.Core.Path.{_≡_, refl, sym, ap, subst}
+use mathlib.Core.Path.{_≡_, refl, sym, ap, subst, _∙_}
 use mathlib.Core.Bool.{Bool, true, false}
 use mathlib.Core.List.{[], _∷_}
 use mathlib.Core.Logic.{_⊎_, ⊎-elim}
@@ -10,9 +10,12 @@ use types.Run.{OneOf}
 use denote.Enum.Declared.{tagOf}
 use Rattle.reader.specs.declared.reading.Reading.{Reading}
 use Rattle.reader.specs.declared.reading.Reading.the-variants.{Good, TooLong, Bad, TooManyNodes, TooManyOperators}
+use Rattle.reader.specs.declared.refusal.Subject.{Subject}
+use Rattle.reader.specs.declared.refusal.Subject.the-variants.{Rule, Condition}
 use Rattle.reader.specs.declared.refusal.Refusal.{Refusal}
-use Rattle.reader.specs.declared.refusal.Refusal.the-variants.{Nothing, Alphabet, TextLength, Buffer, RuleText, RuleNodes, RuleOperators, ConditionText, ConditionNodes, StateCount, GivenCount, Move, State, Value}
-use Rattle.reader.specs.Refusal.{numberOf, isNothing, afterRule, afterCondition}
+use Rattle.reader.specs.declared.refusal.Refusal.the-variants.{Nothing, Alphabet, TextLength, Buffer, RuleText, RuleNodes, RuleOperators}
+use Rattle.reader.specs.declared.refusal.Refusal.the-variants.{ConditionText, ConditionNodes, StateCount, GivenCount, Move, State, Value}
+use Rattle.reader.specs.Refusal.{numberOf, isNothing, afterText, afterRule, afterCondition}
 use Rattle.reader.proofs.reading.Reading.{the-type}
 
 -- refusals with different numbers are different
@@ -56,16 +59,24 @@ pub record Refuses (after : Reading → Refusal → Refusal) (ρ : Reading) : Ty
   pub is-refused : isNothing (after ρ Nothing) ≡ false
   pub not-count : after ρ Nothing ≡ StateCount → ⊥
 
+refuses : (s : Subject) (ρ : Reading) (x : Refusal) → ((later : Refusal) → afterText s ρ later ≡ x)
+    → isNothing x ≡ false → (x ≡ StateCount → ⊥) → Refuses (afterText s) ρ
+refuses s ρ x e n c = record { first = λ later. e later ∙ sym (e Nothing); is-refused = ap isNothing (e Nothing) ∙ n; not-count = λ q. c (sym (e Nothing) ∙ q) }
+
+pub text-refused : (s : Subject) (ρ : Reading) → NotGood ρ → Refuses (afterText s) ρ
+text-refused s (Good n) h = absurd (h n refl)
+text-refused s TooLong h = refuses s TooLong TextLength (λ later. refl) refl (differs TextLength StateCount (λ e. omega arith))
+text-refused Rule (Bad k) h = refuses Rule (Bad k) (RuleText k) (λ later. refl) refl (differs (RuleText k) StateCount (λ e. omega arith))
+text-refused Condition (Bad k) h = refuses Condition (Bad k) (ConditionText k) (λ later. refl) refl (differs (ConditionText k) StateCount (λ e. omega arith))
+text-refused Rule TooManyNodes h = refuses Rule TooManyNodes RuleNodes (λ later. refl) refl (differs RuleNodes StateCount (λ e. omega arith))
+text-refused Condition TooManyNodes h =
+    refuses Condition TooManyNodes ConditionNodes (λ later. refl) refl (differs ConditionNodes StateCount (λ e. omega arith))
+text-refused Rule TooManyOperators h = refuses Rule TooManyOperators RuleOperators (λ later. refl) refl (differs RuleOperators StateCount (λ e. omega arith))
+text-refused Condition TooManyOperators h =
+    refuses Condition TooManyOperators ConditionNodes (λ later. refl) refl (differs ConditionNodes StateCount (λ e. omega arith))
+
 pub rule-refused : (ρ : Reading) → NotGood ρ → Refuses afterRule ρ
-rule-refused (Good n) h = absurd (h n refl)
-rule-refused TooLong h = record { first = λ later. refl; is-refused = refl; not-count = differs TextLength StateCount (λ e. omega arith) }
-rule-refused (Bad k) h = record { first = λ later. refl; is-refused = refl; not-count = differs (RuleText k) StateCount (λ e. omega arith) }
-rule-refused TooManyNodes h = record { first = λ later. refl; is-refused = refl; not-count = differs RuleNodes StateCount (λ e. omega arith) }
-rule-refused TooManyOperators h = record { first = λ later. refl; is-refused = refl; not-count = differs RuleOperators StateCount (λ e. omega arith) }
+rule-refused = text-refused Rule
 
 pub condition-refused : (ρ : Reading) → NotGood ρ → Refuses afterCondition ρ
-condition-refused (Good n) h = absurd (h n refl)
-condition-refused TooLong h = record { first = λ later. refl; is-refused = refl; not-count = differs TextLength StateCount (λ e. omega arith) }
-condition-refused (Bad k) h = record { first = λ later. refl; is-refused = refl; not-count = differs (ConditionText k) StateCount (λ e. omega arith) }
-condition-refused TooManyNodes h = record { first = λ later. refl; is-refused = refl; not-count = differs ConditionNodes StateCount (λ e. omega arith) }
-condition-refused TooManyOperators h = record { first = λ later. refl; is-refused = refl; not-count = differs ConditionNodes StateCount (λ e. omega arith) }
+condition-refused = text-refused Condition

@@ -3,12 +3,11 @@
 use mathlib.Core.Path.{_≡_, refl}
 use mathlib.Core.Bool.{true}
 use mathlib.Core.List.{[], _∷_}
-use Prim.Native.Nat.{_+_, _*_}
 use Rattle.reader.specs.Formula.{Formula, eventually, next, conj, until, name, unary, binary, size, operators}
 use Rattle.reader.specs.Marks.{kindIn, allowedBy, isTemporalMark, amongOf, markKind, operandOf, unaryOf, binaryOf}
 use Rattle.reader.specs.Grammar.{withoutBlanks, Reads, operand, prefix, parens, lower, infixed}
 use Rattle.reader.specs.Place.{IsPlace}
-use Rattle.reader.specs.inner.Nodes.{code, nodesOf}
+use Rattle.reader.specs.inner.Nodes.{wordOf, code, nodesOf}
 use Rattle.reader.specs.inner.Scan.{stepOf, scanOf}
 use Rattle.reader.proofs.ReadingLaws.{place-of}
 
@@ -24,7 +23,7 @@ reads-again =
     (lower (lower (infixed {u = 97 ∷ []} refl (lower (operand refl refl)) (lower (lower (prefix refl (operand refl refl) refl))) refl)))) refl))))
 
 -- its words: a, a, X with coordinate 2, & with a on its left, F with coordinate 1
-nodes-again : nodesOf again ≡ 2 ∷ 2 ∷ (4 + 65536 * 2) ∷ (10 + 256 * 1 + 65536 * 2) ∷ (6 + 65536 * 1) ∷ []
+nodes-again : nodesOf again ≡ 2 ∷ 2 ∷ wordOf 4 0 2 ∷ wordOf 10 1 2 ∷ wordOf 6 0 1 ∷ []
 unfolding code size operators
 nodes-again = refl
 

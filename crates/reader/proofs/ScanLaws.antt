@@ -1,4 +1,4 @@
--- The pass of Scan, step by step as the loop takes it, and as a run over the marks of the text.
+-- The pass of Scan, step by step as the loop takes it, and as the steps at the marks of the text.
 -- Assumes nothing.
 use mathlib.Core.Path.{_≡_, refl, sym, ap, _∙_}
 use mathlib.Core.Bool.{Bool, true, false, cond, true≢false}
@@ -34,66 +34,107 @@ unfolding withoutBlanks
 withoutBlanks-append [] v = refl
 withoutBlanks-append (b ∷ u) v = go (withoutBlanks-append u v) (eqb b 32)
   where
-    go : withoutBlanks (u ++ v) ≡ withoutBlanks u ++ withoutBlanks v → (t : Bool) → cond t (withoutBlanks (u ++ v)) (b ∷ withoutBlanks (u ++ v)) ≡ cond t (withoutBlanks u) (b ∷ withoutBlanks u) ++ withoutBlanks v
+    go : withoutBlanks (u ++ v) ≡ withoutBlanks u ++ withoutBlanks v → (t : Bool)
+        → cond t (withoutBlanks (u ++ v)) (b ∷ withoutBlanks (u ++ v)) ≡ cond t (withoutBlanks u) (b ∷ withoutBlanks u) ++ withoutBlanks v
     go e true = e
     go e false = ap (λ (r : List ℕ). b ∷ r) e
 
 module _ (kind : ℕ → Kind) where
   -- the steps at the marks, one after the other
-  unfoldable pub run : List ℕ → Bool → ℕ → Step
-  run [] w d = Next w d
-  run (b ∷ s) w d = on (markStep (kind b) w d) (run s)
+  unfoldable pub scanned : List ℕ → Bool → ℕ → Step
+  scanned [] w d = Next w d
+  scanned (b ∷ s) w d = on (markStep (kind b) w d) (scanned s)
 
-  pub run-append : (u v : List ℕ) (w : Bool) (d : ℕ) → run (u ++ v) w d ≡ on (run u w d) (run v)
-  unfolding run
-  run-append [] v w d = refl
-  run-append (b ∷ u) v w d = go (λ w′ d′. run-append u v w′ d′) (markStep (kind b) w d)
+  pub scanned-append : (u v : List ℕ) (w : Bool) (d : ℕ) → scanned (u ++ v) w d ≡ on (scanned u w d) (scanned v)
+  unfolding scanned
+  scanned-append [] v w d = refl
+  scanned-append (b ∷ u) v w d = go (λ w′ d′. scanned-append u v w′ d′) (markStep (kind b) w d)
     where
-      go : ((w′ : Bool) (d′ : ℕ) → run (u ++ v) w′ d′ ≡ on (run u w′ d′) (run v)) → (x : Step) → on x (run (u ++ v)) ≡ on (on x (run u)) (run v)
+      go : ((w′ : Bool) (d′ : ℕ) → scanned (u ++ v) w′ d′ ≡ on (scanned u w′ d′) (scanned v)) → (x : Step)
+          → on x (scanned (u ++ v)) ≡ on (on x (scanned u)) (scanned v)
       go rec (Next w′ d′) = rec w′ d′
       go rec Stuck = refl
 
   -- the step at a byte is that at its mark, if it has one
-  run-step : (b : ℕ) (s : List ℕ) (w : Bool) (d : ℕ) → run (withoutBlanks (b ∷ s)) w d ≡ on (stepOf kind b w d) (run (withoutBlanks s))
-  unfolding run withoutBlanks stepOf
-  run-step b s w d = go (eqb b 32)
+  scanned-byte : (b : ℕ) (s : List ℕ) (w : Bool) (d : ℕ) → scanned (withoutBlanks (b ∷ s)) w d ≡ on (stepOf kind b w d) (scanned (withoutBlanks s))
+  unfolding scanned withoutBlanks stepOf
+  scanned-byte b s w d = go (eqb b 32)
     where
-      go : (t : Bool) → run (cond t (withoutBlanks s) (b ∷ withoutBlanks s)) w d ≡ on (cond t (Next w d) (markStep (kind b) w d)) (run (withoutBlanks s))
+      go : (t : Bool)
+          → scanned (cond t (withoutBlanks s) (b ∷ withoutBlanks s)) w d ≡ on (cond t (Next w d) (markStep (kind b) w d)) (scanned (withoutBlanks s))
       go true = refl
       go false = refl
 
   -- the pass over s stops at j, counted from its beginning
   pub record StopsAt (s : List ℕ) (w : Bool) (d j : ℕ) : Type 0 where
     pub within : j ≤ length s
-    pub passed : (w′ : Bool) × (d′ : ℕ) × (run (withoutBlanks (take j s)) w d ≡ Next w′ d′)
-    pub stuck-at : j < length s → run (withoutBlanks (take (suc j) s)) w d ≡ Stuck
-    pub not-whole : run (withoutBlanks s) w d ≡ Next false 0 → ⊥
+    pub passed : (w′ : Bool) × (d′ : ℕ) × (scanned (withoutBlanks (take j s)) w d ≡ Next w′ d′)
+    pub stuck-at : j < length s → scanned (withoutBlanks (take (suc j) s)) w d ≡ Stuck
+    pub not-whole : scanned (withoutBlanks s) w d ≡ Next false 0 → ⊥
 
-  pub run-whole : (s : List ℕ) (at : ℕ) (w : Bool) (d : ℕ) → scanOf kind s at w d ≡ Whole → run (withoutBlanks s) w d ≡ Next false 0
-  unfolding run withoutBlanks scanOf
-  run-whole [] at true d e = absurd (no-place at e)
-  run-whole [] at false zero e = refl
-  run-whole [] at false (suc d) e = absurd (no-place at e)
-  run-whole (b ∷ s) at w d e = run-step b s w d ∙ go (λ w′ d′ q. run-whole s (suc at) w′ d′ q) (stepOf kind b w d) e
+  pub scanned-whole : (s : List ℕ) (at : ℕ) (w : Bool) (d : ℕ) → scanOf kind s at w d ≡ Whole → scanned (withoutBlanks s) w d ≡ Next false 0
+  unfolding scanned withoutBlanks scanOf
+  scanned-whole [] at true d e = absurd (no-place at e)
+  scanned-whole [] at false zero e = refl
+  scanned-whole [] at false (suc d) e = absurd (no-place at e)
+  scanned-whole (b ∷ s) at w d e = scanned-byte b s w d ∙ go (λ w′ d′ q. scanned-whole s (suc at) w′ d′ q) (stepOf kind b w d) e
     where
-      go : ((w′ : Bool) (d′ : ℕ) → scanOf kind s (suc at) w′ d′ ≡ Whole → run (withoutBlanks s) w′ d′ ≡ Next false 0) → (x : Step) → follow x at (scanOf kind s (suc at)) ≡ Whole → on x (run (withoutBlanks s)) ≡ Next false 0
+      go : ((w′ : Bool) (d′ : ℕ) → scanOf kind s (suc at) w′ d′ ≡ Whole → scanned (withoutBlanks s) w′ d′ ≡ Next false 0) → (x : Step)
+          → follow x at (scanOf kind s (suc at)) ≡ Whole → on x (scanned (withoutBlanks s)) ≡ Next false 0
       go rec (Next w′ d′) q = rec w′ d′ q
       go rec Stuck q = absurd (no-place at q)
 
-  pub run-stop : (s : List ℕ) (at : ℕ) (w : Bool) (d k : ℕ) → scanOf kind s at w d ≡ Stopped k → (j : ℕ) × (k ≡ at + j) × StopsAt s w d j
-  unfolding run withoutBlanks scanOf
-  run-stop [] at true d k e = (0, (let f : at ≡ k = cc in omega arith), record { within = omega arith; passed = (true, d, refl); stuck-at = λ h. absurd (not-suc-le-zero h); not-whole = λ q. let z : true ≡ false = cc in absurd (true≢false z) })
-  run-stop [] at false zero k e = absurd (no-place k (sym e))
-  run-stop [] at false (suc d) k e = (0, (let f : at ≡ k = cc in omega arith), record { within = omega arith; passed = (false, suc d, refl); stuck-at = λ h. absurd (not-suc-le-zero h); not-whole = λ q. let z : suc d ≡ 0 = cc in omega arith })
-  run-stop (b ∷ s) at w d k e = go (λ w′ d′ q. run-stop s (suc at) w′ d′ k q) (stepOf kind b w d) refl e
+  pub scanned-stop : (s : List ℕ) (at : ℕ) (w : Bool) (d k : ℕ) → scanOf kind s at w d ≡ Stopped k → (j : ℕ) × (k ≡ at + j) × StopsAt s w d j
+  unfolding scanned withoutBlanks scanOf
+  scanned-stop [] at true d k e = (
+    0,
+    (let f : at ≡ k = cc in omega arith),
+    record {
+      within = omega arith;
+      passed = (true, d, refl);
+      stuck-at = λ h. absurd (not-suc-le-zero h);
+      not-whole = λ q. let z : true ≡ false = cc in absurd (true≢false z);
+    },
+  )
+  scanned-stop [] at false zero k e = absurd (no-place k (sym e))
+  scanned-stop [] at false (suc d) k e = (
+    0,
+    (let f : at ≡ k = cc in omega arith),
+    record {
+      within = omega arith;
+      passed = (false, suc d, refl);
+      stuck-at = λ h. absurd (not-suc-le-zero h);
+      not-whole = λ q. let z : suc d ≡ 0 = cc in omega arith;
+    },
+  )
+  scanned-stop (b ∷ s) at w d k e = go (λ w′ d′ q. scanned-stop s (suc at) w′ d′ k q) (stepOf kind b w d) refl e
     where
-      go : ((w′ : Bool) (d′ : ℕ) → scanOf kind s (suc at) w′ d′ ≡ Stopped k → (j : ℕ) × (k ≡ suc at + j) × StopsAt s w′ d′ j) → (x : Step) → stepOf kind b w d ≡ x → follow x at (scanOf kind s (suc at)) ≡ Stopped k → (j : ℕ) × (k ≡ at + j) × StopsAt (b ∷ s) w d j
+      go : ((w′ : Bool) (d′ : ℕ) → scanOf kind s (suc at) w′ d′ ≡ Stopped k → (j : ℕ) × (k ≡ suc at + j) × StopsAt s w′ d′ j) → (x : Step)
+          → stepOf kind b w d ≡ x → follow x at (scanOf kind s (suc at)) ≡ Stopped k → (j : ℕ) × (k ≡ at + j) × StopsAt (b ∷ s) w d j
       go rec (Next w′ d′) p q =
           let r = rec w′ d′ q in
           let t = r .2 in
-          let m : (u : List ℕ) → run (withoutBlanks (b ∷ u)) w d ≡ run (withoutBlanks u) w′ d′ = λ u. run-step b u w d ∙ ap (λ (x : Step). on x (run (withoutBlanks u))) p in
-          (suc (r .0), (let f : k ≡ suc at + r .0 = r .1 in omega arith), record { within = suc-le-suc (t .within); passed = (t .passed .0, t .passed .1, m (take (r .0) s) ∙ t .passed .2); stuck-at = λ h. m (take (suc (r .0)) s) ∙ t .stuck-at (le-of-suc-le-suc h); not-whole = λ g. t .not-whole (sym (m s) ∙ g) })
-      go rec Stuck p q = (0, (let f : at ≡ k = cc in omega arith), record { within = omega arith; passed = (w, d, refl); stuck-at = λ h. run-step b [] w d ∙ ap (λ (x : Step). on x (run [])) p; not-whole = λ g. stuck false 0 (sym (run-step b s w d ∙ ap (λ (x : Step). on x (run (withoutBlanks s))) p) ∙ g) })
+          let m : (u : List ℕ) → scanned (withoutBlanks (b ∷ u)) w d ≡ scanned (withoutBlanks u) w′ d′ =
+          λ u. scanned-byte b u w d ∙ ap (λ (x : Step). on x (scanned (withoutBlanks u))) p in (
+            suc (r .0),
+            (let f : k ≡ suc at + r .0 = r .1 in omega arith),
+            record {
+              within = suc-le-suc (t .within);
+              passed = (t .passed .0, t .passed .1, m (take (r .0) s) ∙ t .passed .2);
+              stuck-at = λ h. m (take (suc (r .0)) s) ∙ t .stuck-at (le-of-suc-le-suc h);
+              not-whole = λ g. t .not-whole (sym (m s) ∙ g);
+            },
+          )
+      go rec Stuck p q = (
+        0,
+        (let f : at ≡ k = cc in omega arith),
+        record {
+          within = omega arith;
+          passed = (w, d, refl);
+          stuck-at = λ h. scanned-byte b [] w d ∙ ap (λ (x : Step). on x (scanned [])) p;
+          not-whole = λ g. stuck false 0 (sym (scanned-byte b s w d ∙ ap (λ (x : Step). on x (scanned (withoutBlanks s))) p) ∙ g);
+        },
+      )
 
 -- ---- one turn of the loop
 
@@ -134,7 +175,8 @@ module _ (kind : ℕ → Kind) (s : List ℕ) (at : ℕ) (w : Bool) (d : ℕ) wh
   unfolding scanOf
   scan-end h = rw (drop-of-length-le s h)
 
-  pub scan-goes : (w′ : Bool) (d′ : ℕ) → at < length s → stepOf kind (getD s at 0) w d ≡ Next w′ d′ → scanOf kind (drop (at + 1) s) (at + 1) w′ d′ ≡ scanOf kind (drop at s) at w d
+  pub scan-goes : (w′ : Bool) (d′ : ℕ) → at < length s → stepOf kind (getD s at 0) w d ≡ Next w′ d′
+      → scanOf kind (drop (at + 1) s) (at + 1) w′ d′ ≡ scanOf kind (drop at s) at w d
   scan-goes w′ d′ h e = sym (scan-at h ∙ rw e)
 
   pub scan-stops : at < length s → stepOf kind (getD s at 0) w d ≡ Stuck → Stopped at ≡ scanOf kind (drop at s) at w d

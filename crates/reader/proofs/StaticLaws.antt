@@ -38,4 +38,11 @@ static {i} o (prefix {b = b} {φ = α} k x e) =
 static o (parens ka kb x) = static o x
 static o (lower x) = static o x
 static {i} o (infixed {l = l} {b = b} {φ = α} {ψ = β} k x y e) =
-    omega (arith, ap operators e, infix-tick b (suc l) (same-kind i o false b (Infix (suc l)) k refl) (operators β), no-tick i o b (Infix (suc l)) k refl, static o x, static o y)
+    omega (
+      arith,
+      ap operators e,
+      infix-tick b (suc l) (same-kind i o false b (Infix (suc l)) k refl) (operators β),
+      no-tick i o b (Infix (suc l)) k refl,
+      static o x,
+      static o y,
+    )

@@ -38,7 +38,8 @@ module _ (s : List ℕ) (at : ℕ) where
 
 -- a place with a mark is inside the text
 pub inside : (text : List ℕ) (at b : ℕ) (s : List ℕ) → withoutBlanks (drop at text) ≡ b ∷ s → at < length text
-inside text at b s e = lt-of-not-le (λ h. let f : withoutBlanks (drop at text) ≡ [] = withoutBlanks-end text at h in let z : _≡_ {A = ℕ} 0 1 = cc in omega arith)
+inside text at b s e =
+    lt-of-not-le (λ h. let f : withoutBlanks (drop at text) ≡ [] = withoutBlanks-end text at h in let z : _≡_ {A = ℕ} 0 1 = cc in omega arith)
 
 pub tick-on : (b k : ℕ) → isTemporalMark b ≡ true → k + 1 ≡ k + tick b
 unfolding tick
@@ -49,7 +50,8 @@ unfolding tick
 tick-off b k e = rw e (omega arith)
 
 -- past a mark and the blanks after it
-pub past-mark : (text : List ℕ) (p r : Pos) → p .at < length text → NotBlank text (p .at) → PastBlanks text (p .at + 1) (r .at) → r .nodes ≡ p .nodes → r .coordinate ≡ p .coordinate + tick (getD text (p .at) 0) → PastMark text p r
+pub past-mark : (text : List ℕ) (p r : Pos) → p .at < length text → NotBlank text (p .at) → PastBlanks text (p .at + 1) (r .at)
+    → r .nodes ≡ p .nodes → r .coordinate ≡ p .coordinate + tick (getD text (p .at) 0) → PastMark text p r
 past-mark text p r h n k e f =
     record {
       past = omega (arith, k .from);

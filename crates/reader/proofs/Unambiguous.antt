@@ -39,19 +39,26 @@ Same s t φ ψ = (s ≡ t) × (φ ≡ ψ)
 one-kind : (a b : ℕ) (s t : List ℕ) (j k : Kind) → _≡_ {A = List ℕ} (a ∷ s) (b ∷ t) → markKind a ≡ j → markKind b ≡ k → j ≡ k
 one-kind a b s t j k e f g = let h : a ≡ b = cc in sym f ∙ ap markKind h ∙ g
 
-same : {i l : ℕ} {w : List ℕ} {φ : Formula} → Derives i markKind l w φ → {v : List ℕ} {ψ : Formula} → Derives i markKind l v ψ → (s t : List ℕ) → w ++ s ≡ v ++ t → CanFollow l s → CanFollow l t → Same s t φ ψ
+same : {i l : ℕ} {w : List ℕ} {φ : Formula} → Derives i markKind l w φ → {v : List ℕ} {ψ : Formula} → Derives i markKind l v ψ
+    → (s t : List ℕ) → w ++ s ≡ v ++ t → CanFollow l s → CanFollow l t → Same s t φ ψ
 same (operand {b = a} j eφ) (operand {b = b} k eψ) s t e c d = let h : a ≡ b = cc in (cc, cc)
-same (operand {b = a} j eφ) (prefix {b = b} k y eψ) s t e c d = let f : Operand ≡ Prefix = one-kind a b _ _ _ _ e j k in let z : _≡_ {A = ℕ} 0 1 = cc in absurd (omega arith)
-same (operand {b = a} j eφ) (parens {a = b} k k′ y) s t e c d = let f : Operand ≡ Open = one-kind a b _ _ _ _ e j k in let z : _≡_ {A = ℕ} 0 1 = cc in absurd (omega arith)
-same (prefix {b = a} j x eφ) (operand {b = b} k eψ) s t e c d = let f : Prefix ≡ Operand = one-kind a b _ _ _ _ e j k in let z : _≡_ {A = ℕ} 0 1 = cc in absurd (omega arith)
+same (operand {b = a} j eφ) (prefix {b = b} k y eψ) s t e c d =
+    let f : Operand ≡ Prefix = one-kind a b _ _ _ _ e j k in let z : _≡_ {A = ℕ} 0 1 = cc in absurd (omega arith)
+same (operand {b = a} j eφ) (parens {a = b} k k′ y) s t e c d =
+    let f : Operand ≡ Open = one-kind a b _ _ _ _ e j k in let z : _≡_ {A = ℕ} 0 1 = cc in absurd (omega arith)
+same (prefix {b = a} j x eφ) (operand {b = b} k eψ) s t e c d =
+    let f : Prefix ≡ Operand = one-kind a b _ _ _ _ e j k in let z : _≡_ {A = ℕ} 0 1 = cc in absurd (omega arith)
 same (prefix {b = a} {w = w} {φ = φ} j x eφ) (prefix {b = b} {w = v} {φ = ψ} k y eψ) s t e c d =
     let h : a ≡ b = cc in
     let r = same x y s t (let g : w ++ s ≡ v ++ t = cc in g) c d in
     let f : φ ≡ ψ = r .1 in
     (r .0, cc)
-same (prefix {b = a} j x eφ) (parens {a = b} k k′ y) s t e c d = let f : Prefix ≡ Open = one-kind a b _ _ _ _ e j k in let z : _≡_ {A = ℕ} 0 1 = cc in absurd (omega arith)
-same (parens {a = a} j j′ x) (operand {b = b} k eψ) s t e c d = let f : Open ≡ Operand = one-kind a b _ _ _ _ e j k in let z : _≡_ {A = ℕ} 0 1 = cc in absurd (omega arith)
-same (parens {a = a} j j′ x) (prefix {b = b} k y eψ) s t e c d = let f : Open ≡ Prefix = one-kind a b _ _ _ _ e j k in let z : _≡_ {A = ℕ} 0 1 = cc in absurd (omega arith)
+same (prefix {b = a} j x eφ) (parens {a = b} k k′ y) s t e c d =
+    let f : Prefix ≡ Open = one-kind a b _ _ _ _ e j k in let z : _≡_ {A = ℕ} 0 1 = cc in absurd (omega arith)
+same (parens {a = a} j j′ x) (operand {b = b} k eψ) s t e c d =
+    let f : Open ≡ Operand = one-kind a b _ _ _ _ e j k in let z : _≡_ {A = ℕ} 0 1 = cc in absurd (omega arith)
+same (parens {a = a} j j′ x) (prefix {b = b} k y eψ) s t e c d =
+    let f : Open ≡ Prefix = one-kind a b _ _ _ _ e j k in let z : _≡_ {A = ℕ} 0 1 = cc in absurd (omega arith)
 same (parens {a = a} {b = b} {w = w} j j′ x) (parens {a = a′} {b = b′} {w = v} k k′ y) s t e c d =
     let g : w ++ (b ∷ []) ++ s ≡ v ++ (b′ ∷ []) ++ t = cc in
     let r = same x y (b ∷ s) (b′ ∷ t) (sym (append-assoc w (b ∷ []) s) ∙ (g ∙ append-assoc v (b′ ∷ []) t)) (follow-close 4 b s j′) (follow-close 4 b′ t k′) in
@@ -65,7 +72,9 @@ same (infixed {l = l} {b = b} {u = u} {v = v} k y z eφ) (lower x) s t e c d =
     let r = same y x (b ∷ (v ++ s)) t (sym (append-assoc u (b ∷ v) s) ∙ e) (follow-infix l b (v ++ s) k) (follow-down l t d) in
     absurd (follow-level l t d (ap firstLevel (sym (r .0)) ∙ ap levelOf k))
 same (infixed {l = l} {b = a} {u = u} {v = v} {φ = α} {ψ = β} j x y eφ) (infixed {b = b} {u = u′} {v = v′} {φ = γ} {ψ = δ} k x′ y′ eψ) s t e c d =
-    let r = same x x′ (a ∷ (v ++ s)) (b ∷ (v′ ++ t)) (sym (append-assoc u (a ∷ v) s) ∙ (e ∙ append-assoc u′ (b ∷ v′) t)) (follow-infix l a (v ++ s) j) (follow-infix l b (v′ ++ t) k) in
+    let r =
+    same x x′ (a ∷ (v ++ s)) (b ∷ (v′ ++ t)) (sym (append-assoc u (a ∷ v) s) ∙ (e ∙ append-assoc u′ (b ∷ v′) t))
+    (follow-infix l a (v ++ s) j) (follow-infix l b (v′ ++ t) k) in
     let q : _≡_ {A = List ℕ} (a ∷ (v ++ s)) (b ∷ (v′ ++ t)) = r .0 in
     let h : a ≡ b = cc in
     let f : α ≡ γ = r .1 in
@@ -77,8 +86,13 @@ same (infixed {l = l} {b = a} {u = u} {v = v} {φ = α} {ψ = β} j x y eφ) (in
 
 begins-less : (i : ℕ) (kind : ℕ → Kind) (text : List ℕ) (j k : ℕ) → j ≤ k → Begins i kind (take k text) → Begins i kind (take j text)
 begins-less i kind text j k h b =
-    let e : take j text ++ drop j (take k text) ≡ take k text = ap (λ (r : List ℕ). r ++ drop j (take k text)) (sym (take-take j k text h)) ∙ take-append-drop j (take k text) in
-    (drop j (take k text) ++ b .0, b .1, subst (λ (r : List ℕ). Reads i kind r (b .1)) (ap (λ (r : List ℕ). r ++ b .0) (sym e) ∙ append-assoc (take j text) (drop j (take k text)) (b .0)) (b .2))
+    let e : take j text ++ drop j (take k text) ≡ take k text =
+    ap (λ (r : List ℕ). r ++ drop j (take k text)) (sym (take-take j k text h)) ∙ take-append-drop j (take k text) in (
+      drop j (take k text) ++ b .0,
+      b .1,
+      subst (λ (r : List ℕ). Reads i kind r (b .1))
+          (ap (λ (r : List ℕ). r ++ b .0) (sym e) ∙ append-assoc (take j text) (drop j (take k text)) (b .0)) (b .2),
+    )
 
 not-later : (i : ℕ) (kind : ℕ → Kind) (text : List ℕ) (j k : ℕ) → IsPlace i kind text j → IsPlace i kind text k → k ≤ j
 not-later i kind text j k p q = go (decLe k j)
@@ -111,7 +125,8 @@ cause i kind text (Good n) a =
 cause i kind text TooLong a = inl (a, refl)
 cause i kind text (Bad k) a = inr (a .0, inr (k, a .1, refl))
 cause i kind text TooManyNodes a = inr (a .0, inl (a .1, a .2, simp (lt-ltb nodeLimit (size (a .1)) (a .3))))
-cause i kind text TooManyOperators a = inr (a .0, inl (a .1, a .2, simp (le-ltb nodeLimit (size (a .1)) (a .3), lt-ltb operatorLimit (operators (a .1)) (a .4))))
+cause i kind text TooManyOperators a =
+    inr (a .0, inl (a .1, a .2, simp (le-ltb nodeLimit (size (a .1)) (a .3), lt-ltb operatorLimit (operators (a .1)) (a .4))))
 
 -- ---- the theorems
 

@@ -1,3 +1,4 @@
+pub mod Text
 pub mod Formula
 pub mod Marks
 pub mod Grammar

@@ -2,16 +2,16 @@
 -- Assumes nothing.
 use Prim.Native.Nat.{ℕ}
 use mathlib.Core.Bool.{Bool}
-use mathlib.Core.List.{List}
 use lib.Dec.{ltb}
 use lib.ListN.{length}
+use Rattle.reader.specs.Text.{Text}
 
 -- the bytes of a rule or of a condition
 abbrev pub textLimit : ℕ
 textLimit = 255
 
 -- the test of refusal 2: a text over that many bytes
-abbrev pub tooLong : List ℕ → Bool
+abbrev pub tooLong : Text → Bool
 tooLong text = ltb textLimit (length text)
 
 -- the nodes of a rule or of a condition

@@ -31,25 +31,25 @@ unfoldable pub isTemporalMark : ℕ → Bool
 isTemporalMark b = amongOf b (88 ∷ 78 ∷ 70 ∷ 71 ∷ 85 ∷ 82 ∷ [])
 
 -- whether a byte is in reach: of a b c d the first i, of p q r s the first o, temporal marks where t says so, and every other byte
-unfoldable pub allowedBy : ℕ → ℕ → Bool → ℕ → Bool
+unfoldable pub allowedBy : (i o : ℕ) (t : Bool) (b : ℕ) → Bool
 allowedBy i o t b =
     cond (isTemporalMark b) t
     (cond (leb 97 b && leb b 100) (ltb (b - 97) i)
     (cond (leb 112 b && leb b 115) (ltb (b - 112) o) true))
 
 -- the kind of a byte in a text with i inputs and o outputs; t says whether temporal marks may stand there
-unfoldable pub kindIn : ℕ → ℕ → Bool → ℕ → Kind
+unfoldable pub kindIn : (i o : ℕ) (t : Bool) (b : ℕ) → Kind
 kindIn i o t b = cond (allowedBy i o t b) (markKind b) Other
 
 -- a rule: all the names and marks; a condition: input names only, and no temporal mark
-abbrev pub ruleKind : ℕ → ℕ → ℕ → Kind
+abbrev pub ruleKind : (i o : ℕ) → ℕ → Kind
 ruleKind i o = kindIn i o true
 
-abbrev pub conditionKind : ℕ → ℕ → Kind
+abbrev pub conditionKind : (i : ℕ) → ℕ → Kind
 conditionKind i = kindIn i 0 false
 
 -- the formula of an operand: 0, 1, an input a b c d, an output p q r s behind i inputs
-unfoldable pub operandOf : ℕ → ℕ → Formula
+unfoldable pub operandOf : (i b : ℕ) → Formula
 operandOf i b =
     cond (eqb b 48) (constant false)
     (cond (eqb b 49) (constant true)

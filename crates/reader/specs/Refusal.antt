@@ -1,12 +1,16 @@
--- The refusals (specification, "Refusals"): the declared type `Refusal`, one case for each row of the specification's table that a call of the library can return.
+-- The refusals (specification, "Refusals"): the declared type `Refusal`, one case for each row of the specification's table that a call of the
+-- library can return.
 -- Assumes nothing.
 use Prim.Native.Nat.{ℕ}
 use mathlib.Core.Bool.{Bool}
 use lib.Dec.{eqb}
 use Rattle.reader.specs.declared.reading.Reading.{Reading}
 use Rattle.reader.specs.declared.reading.Reading.the-variants.{Good, TooLong, Bad, TooManyNodes, TooManyOperators}
+use Rattle.reader.specs.declared.refusal.Subject.{Subject}
+use Rattle.reader.specs.declared.refusal.Subject.the-variants.{Rule, Condition}
 use Rattle.reader.specs.declared.refusal.Refusal.{Refusal}
-use Rattle.reader.specs.declared.refusal.Refusal.the-variants.{Nothing, Alphabet, TextLength, Buffer, RuleText, RuleNodes, RuleOperators, ConditionText, ConditionNodes, StateCount, GivenCount, Move, State, Value}
+use Rattle.reader.specs.declared.refusal.Refusal.the-variants.{Nothing, Alphabet, TextLength, Buffer, RuleText, RuleNodes, RuleOperators}
+use Rattle.reader.specs.declared.refusal.Refusal.the-variants.{ConditionText, ConditionNodes, StateCount, GivenCount, Move, State, Value}
 
 -- the specification's number of a refusal; 0 for none, which is what a served call has
 abbrev pub numberOf : Refusal → ℕ
@@ -46,19 +50,22 @@ placeOf (Value k) = k
 abbrev pub isNothing : Refusal → Bool
 isNothing x = eqb (numberOf x) 0
 
--- what a rule's reading is refused by, and where it is good what comes after
--- (`TooLong` never arises in a call, which tests the length before it reads)
-abbrev pub afterRule : Reading → Refusal → Refusal
-afterRule (Good n) later = later
-afterRule TooLong later = TextLength
-afterRule (Bad k) later = RuleText k
-afterRule TooManyNodes later = RuleNodes
-afterRule TooManyOperators later = RuleOperators
+-- what the reading of a rule's or a condition's text is refused by, and where it is good what comes after
+-- (`TooLong` never arises in a call, which tests the length before it reads, nor do too many operators of a condition, which has no temporal one)
+abbrev pub afterText : Subject → Reading → Refusal → Refusal
+afterText subject (Good n) later = later
+afterText subject TooLong later = TextLength
+afterText Rule (Bad k) later = RuleText k
+afterText Condition (Bad k) later = ConditionText k
+afterText Rule TooManyNodes later = RuleNodes
+afterText Condition TooManyNodes later = ConditionNodes
+afterText Rule TooManyOperators later = RuleOperators
+afterText Condition TooManyOperators later = ConditionNodes
 
--- the same for a condition, which has no temporal operator, so that the last case never arises
+-- the rule's refusals: 4, 5 and 6
+abbrev pub afterRule : Reading → Refusal → Refusal
+afterRule ρ later = afterText Rule ρ later
+
+-- the condition's: 7 and 8
 abbrev pub afterCondition : Reading → Refusal → Refusal
-afterCondition (Good n) later = later
-afterCondition TooLong later = TextLength
-afterCondition (Bad k) later = ConditionText k
-afterCondition TooManyNodes later = ConditionNodes
-afterCondition TooManyOperators later = ConditionNodes
+afterCondition ρ later = afterText Condition ρ later

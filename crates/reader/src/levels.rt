@@ -1,15 +1,17 @@
 // The five levels of the grammar, read from a text of the grammar into nodes.
 ghost use mathlib.Core.Path.{_≡_};
 ghost use Prim.Native.Nat.{_+_, _≤_, _<_};
-ghost use lib.ListN.{length, getD, set};
+ghost use lib.ListN.{length, set};
+ghost use Rattle.reader.specs.Limits.{nodeLimit, operatorLimit};
 ghost use Rattle.reader.specs.Marks.{markKind};
 ghost use Rattle.reader.specs.inner.Nodes.{wordOf};
-ghost use Rattle.reader.specs.inner.Words.{nodeOf};
+ghost use Rattle.reader.specs.inner.Words.{argumentLimit, nodeOf, nodeAt};
 ghost use Rattle.reader.specs.inner.Steps.{NotBlank, PastBlanks, LevelAt, PastMark, Readable, Consumed, isOpen, isPrefix};
+use crate::limits::FIELD_SIZE;
 use crate::marks::Kind;
 use crate::marks::infix_kind;
-use crate::marks::is_temporal;
-use crate::marks::kind_of;
+use crate::marks::is_temporal_mark;
+use crate::marks::mark_kind;
 use crate::marks::operand_argument;
 use crate::marks::operand_kind;
 use crate::marks::prefix_kind;
@@ -42,7 +44,7 @@ fn level_at(text: &[u8], at: usize) -> u8
     ensures { λ r. ⌜ LevelAt (now (text .entry)) at r ⌝ }
 {
     if at < text.len() {
-        let k = kind_of(text[at]);
+        let k = mark_kind(text[at]);
         match k {
             Kind::Operand => 0,
             Kind::Prefix => 0,
@@ -57,23 +59,23 @@ fn level_at(text: &[u8], at: usize) -> u8
 }
 
 // A node's word.
-fn word(kind: u8, left: usize, argument: usize) -> usize
-    requires { ⌜ (left ≤ 64) × (argument ≤ 510) ⌝ }
+fn word_of(kind: u8, left: usize, argument: usize) -> usize
+    requires { ⌜ (left ≤ nodeLimit) × (argument ≤ argumentLimit) ⌝ }
     ensures { λ r. ⌜ r ≡ wordOf kind left argument ⌝ }
 {
-    (kind as usize) + 256 * left + 65536 * argument
+    (kind as usize) + FIELD_SIZE * left + FIELD_SIZE * FIELD_SIZE * argument
 }
 
 // The node of a mark, in a text with i inputs.
 fn node(b: u8, i: u8, left: usize, coordinate: usize) -> usize
-    requires { ⌜ (left ≤ 64) × (coordinate ≤ 64) ⌝ }
+    requires { ⌜ (left ≤ nodeLimit) × (coordinate ≤ operatorLimit + 1) ⌝ }
     ensures { λ r. ⌜ r ≡ nodeOf i b left coordinate (markKind b) ⌝ }
 {
-    let k = kind_of(b);
+    let k = mark_kind(b);
     match k {
-        Kind::Operand => word(operand_kind(b), left, operand_argument(b, i, coordinate)),
-        Kind::Prefix => word(prefix_kind(b), left, coordinate),
-        Kind::Infix(_) => word(infix_kind(b), left, coordinate),
+        Kind::Operand => word_of(operand_kind(b), left, operand_argument(b, i, coordinate)),
+        Kind::Prefix => word_of(prefix_kind(b), left, coordinate),
+        Kind::Infix(_) => word_of(infix_kind(b), left, coordinate),
         Kind::Open => 0,
         Kind::Close => 0,
         Kind::Other => 0,
@@ -82,12 +84,12 @@ fn node(b: u8, i: u8, left: usize, coordinate: usize) -> usize
 
 // The position past the mark at p.
 fn over(text: &[u8], p: Pos) -> Pos
-    requires { ⌜ (NotBlank (now text) (p .at)) × ((p .at < length (now text)) × (p .coordinate ≤ 64)) ⌝ }
+    requires { ⌜ (NotBlank (now text) (p .at)) × ((p .at < length (now text)) × (p .coordinate ≤ operatorLimit + 1)) ⌝ }
     ensures { λ r. ⌜ PastMark (now (text .entry)) p r ⌝ }
 {
     let at = p.at;
     let next = skip(text, at + 1);
-    if is_temporal(text[at]) {
+    if is_temporal_mark(text[at]) {
         return Pos {
             at: next,
             nodes: p.nodes,
@@ -103,9 +105,9 @@ fn over(text: &[u8], p: Pos) -> Pos
 
 // Writes the node of the mark at p, whose operands have been read up to r; `left` is what its word says of the left one.
 fn put(text: &[u8], i: u8, p: Pos, left: usize, r: Pos, out: &mut [usize]) -> Pos
-    requires { ⌜ (p .at < length (now text)) × ((left ≤ 64) × ((p .coordinate ≤ 64) × (r .nodes < length (now out)))) ⌝ }
+    requires { ⌜ (p .at < length (now text)) × ((left ≤ nodeLimit) × ((p .coordinate ≤ operatorLimit + 1) × (r .nodes < length (now out)))) ⌝ }
     ensures result { λ s. ⌜ (s .at ≡ r .at) × ((s .nodes ≡ r .nodes + 1) × (s .coordinate ≡ r .coordinate)) ⌝ }
-    ensures stored { λ _. ⌜ now (out .exit) ≡ set (now (out .entry)) (r .nodes) (nodeOf i (getD (now (text .entry)) (p .at) 0) left (p .coordinate) (markKind (getD (now (text .entry)) (p .at) 0))) ⌝ }
+    ensures stored { λ _. ⌜ now (out .exit) ≡ set (now (out .entry)) (r .nodes) (nodeAt i (now (text .entry)) (p .at) left (p .coordinate)) ⌝ }
 {
     let at = p.at;
     let n = r.nodes;
@@ -121,7 +123,7 @@ fn put(text: &[u8], i: u8, p: Pos, left: usize, r: Pos, out: &mut [usize]) -> Po
 fn is_open(b: u8) -> bool
     ensures { λ r. ⌜ r ≡ isOpen (markKind b) ⌝ }
 {
-    let k = kind_of(b);
+    let k = mark_kind(b);
     match k {
         Kind::Open => true,
         Kind::Operand => false,
@@ -136,7 +138,7 @@ fn is_open(b: u8) -> bool
 fn is_prefix(b: u8) -> bool
     ensures { λ r. ⌜ r ≡ isPrefix (markKind b) ⌝ }
 {
-    let k = kind_of(b);
+    let k = mark_kind(b);
     match k {
         Kind::Prefix => true,
         Kind::Operand => false,

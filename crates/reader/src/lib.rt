@@ -1,5 +1,6 @@
 // The reader: from a text to the nodes of its formula, or to the place of its first bad byte.
 mod levels;
+pub mod limits;
 mod marks;
 pub mod reading;
 pub mod refusal;

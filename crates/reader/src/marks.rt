@@ -30,7 +30,7 @@ fn among(b: u8, bytes: &[u8]) -> bool
 }
 
 // The kind of a byte, every name and mark being in reach.
-pub(crate) fn kind_of(b: u8) -> Kind
+pub(crate) fn mark_kind(b: u8) -> Kind
     ensures { λ r. ⌜ r ≡ markKind b ⌝ }
 {
     if among(b, b"01abcdpqrs") {
@@ -61,7 +61,7 @@ pub(crate) fn kind_of(b: u8) -> Kind
 }
 
 // Whether a byte is a temporal mark.
-pub(crate) fn is_temporal(b: u8) -> bool
+pub(crate) fn is_temporal_mark(b: u8) -> bool
     ensures { λ r. ⌜ r ≡ isTemporalMark b ⌝ }
 {
     among(b, b"XNFGUR")
@@ -71,7 +71,7 @@ pub(crate) fn is_temporal(b: u8) -> bool
 pub(crate) fn allowed(b: u8, i: u8, o: u8, temporal: bool) -> bool
     ensures { λ r. ⌜ r ≡ allowedBy i o temporal b ⌝ }
 {
-    if is_temporal(b) {
+    if is_temporal_mark(b) {
         return temporal;
     }
     if 97 <= b {

@@ -8,6 +8,9 @@ ghost use Rattle.reader.specs.Reading.{ReadingOf};
 use crate::levels::Pos;
 use crate::levels::read_implies;
 use crate::levels::skip;
+use crate::limits::NODE_LIMIT;
+use crate::limits::OPERATOR_LIMIT;
+use crate::limits::TEXT_LIMIT;
 use crate::scan::Scanned;
 use crate::scan::scan;
 use crate::size::count;
@@ -21,11 +24,11 @@ pub enum Reading {
     TooManyOperators,
 }
 
-// Whether a text is over 255 bytes.
+// Whether a text is over the limit of its bytes.
 pub fn too_long(text: &[u8]) -> bool
     ensures { λ r. ⌜ r ≡ tooLong (now (text .entry)) ⌝ }
 {
-    255 < text.len()
+    TEXT_LIMIT < text.len()
 }
 
 // Reads a text with i inputs and o outputs, and writes no nodes; temporal marks may stand in it where `temporal` says so.
@@ -40,10 +43,10 @@ pub fn check(text: &[u8], i: u8, o: u8, temporal: bool) -> Reading
         Scanned::Stopped(k) => Reading::Bad(k),
         Scanned::Whole => {
             let n = count(text, false);
-            if 64 < n {
+            if NODE_LIMIT < n {
                 return Reading::TooManyNodes;
             }
-            if 5 < count(text, true) {
+            if OPERATOR_LIMIT < count(text, true) {
                 return Reading::TooManyOperators;
             }
             Reading::Good(n)
@@ -76,7 +79,7 @@ fn read_into(text: &[u8], i: u8, o: u8, temporal: bool, out: &mut [usize]) -> Re
 }
 
 // Reads a text as `check` does, and writes the nodes of a good one.
-pub fn read(text: &[u8], i: u8, o: u8, temporal: bool, nodes: &mut [usize; 64]) -> Reading
+pub fn read(text: &[u8], i: u8, o: u8, temporal: bool, nodes: &mut [usize; NODE_LIMIT]) -> Reading
     ensures reading { λ r. ⌜ ReadingOf i (kindIn i o temporal) (now (text .entry)) r ⌝ }
     ensures nodes { λ r. ⌜ Written i (kindIn i o temporal) (now (text .entry)) r (now (nodes .entry)) (now (nodes .exit)) ⌝ }
 {

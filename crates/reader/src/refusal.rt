@@ -1,7 +1,7 @@
 // The refusals of all calls.
 ghost use mathlib.Core.Path.{_≡_};
 ghost use Rattle.reader.specs.declared.refusal.Refusal.the-variants.{Nothing};
-ghost use Rattle.reader.specs.Refusal.{numberOf, placeOf, afterRule, afterCondition};
+ghost use Rattle.reader.specs.Refusal.{numberOf, placeOf, afterText};
 use crate::reading::Reading;
 
 // Why a call is refused. Nothing stands for no refusal.
@@ -22,29 +22,37 @@ pub enum Refusal {
     Value(usize),
 }
 
-// The refusal of a rule that reads so.
-pub fn rule_refusal(reading: Reading) -> Refusal
-    ensures { λ r. ⌜ r ≡ afterRule reading Nothing ⌝ }
-{
-    match reading {
-        Reading::Good(_) => Refusal::Nothing,
-        Reading::TooLong => Refusal::TextLength,
-        Reading::Bad(place) => Refusal::RuleText(place),
-        Reading::TooManyNodes => Refusal::RuleNodes,
-        Reading::TooManyOperators => Refusal::RuleOperators,
-    }
+// Whose text it is.
+pub enum Subject {
+    Rule,
+    Condition,
 }
 
-// The refusal of a condition that reads so.
-pub fn condition_refusal(reading: Reading) -> Refusal
-    ensures { λ r. ⌜ r ≡ afterCondition reading Nothing ⌝ }
+// The refusal of a text that reads so.
+pub fn text_refusal(subject: Subject, reading: Reading) -> Refusal
+    ensures { λ r. ⌜ r ≡ afterText subject reading Nothing ⌝ }
 {
     match reading {
         Reading::Good(_) => Refusal::Nothing,
         Reading::TooLong => Refusal::TextLength,
-        Reading::Bad(place) => Refusal::ConditionText(place),
-        Reading::TooManyNodes => Refusal::ConditionNodes,
-        Reading::TooManyOperators => Refusal::ConditionNodes,
+        Reading::Bad(place) => {
+            match subject {
+                Subject::Rule => Refusal::RuleText(place),
+                Subject::Condition => Refusal::ConditionText(place),
+            }
+        }
+        Reading::TooManyNodes => {
+            match subject {
+                Subject::Rule => Refusal::RuleNodes,
+                Subject::Condition => Refusal::ConditionNodes,
+            }
+        }
+        Reading::TooManyOperators => {
+            match subject {
+                Subject::Rule => Refusal::RuleOperators,
+                Subject::Condition => Refusal::ConditionNodes,
+            }
+        }
     }
 }
 

@@ -6,7 +6,7 @@ ghost use Rattle.reader.specs.Marks.{kindIn};
 ghost use Rattle.reader.specs.inner.Scan.{markStep, stepOf, scanOf};
 use crate::marks::Kind;
 use crate::marks::allowed;
-use crate::marks::kind_of;
+use crate::marks::mark_kind;
 
 // Where the pass is after a byte: whether an operand is due, and how many parentheses are open; or that the byte cannot stand there.
 pub enum Step {
@@ -61,7 +61,7 @@ fn advance(b: u8, i: u8, o: u8, temporal: bool, due: bool, depth: usize) -> Step
         return Step::Next(due, depth);
     }
     if allowed(b, i, o, temporal) {
-        return mark_step(kind_of(b), due, depth);
+        return mark_step(mark_kind(b), due, depth);
     }
     Step::Stuck
 }

@@ -4,14 +4,14 @@ ghost use Prim.Native.Nat.{_≤_};
 ghost use Rattle.reader.specs.Marks.{markKind};
 ghost use Rattle.reader.specs.inner.Counts.{tick, weightOf, countOf};
 use crate::marks::Kind;
-use crate::marks::is_temporal;
-use crate::marks::kind_of;
+use crate::marks::is_temporal_mark;
+use crate::marks::mark_kind;
 
 // 1 for a temporal mark, else 0.
 fn tick_of(b: u8) -> usize
     ensures { λ r. ⌜ r ≡ tick b ⌝ }
 {
-    if is_temporal(b) {
+    if is_temporal_mark(b) {
         return 1;
     }
     0
@@ -22,7 +22,7 @@ fn weight(b: u8, temporal: bool) -> usize
     ensures value { λ r. ⌜ r ≡ weightOf temporal (tick b) (markKind b) ⌝ }
     ensures small { λ r. ⌜ r ≤ 1 ⌝ }
 {
-    let k = kind_of(b);
+    let k = mark_kind(b);
     match k {
         Kind::Operand => { if temporal { 0 } else { 1 } }
         Kind::Prefix => { if temporal { tick_of(b) } else { 1 } }

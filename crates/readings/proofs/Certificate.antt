@@ -10,6 +10,7 @@ use Rattle.reader.specs.Marks.{ruleKind, conditionKind, kindIn}
 use Rattle.automaton.specs.Limits.{stateLimit}
 use Rattle.automaton.specs.Alphabet.{badAlphabet}
 use Rattle.automaton.specs.Condition.{maskOf}
+use Rattle.machine.specs.Discovery as machine
 use Rattle.automaton.specs.Discovery.{stateCount}
 use Rattle.plays.specs.inner.Rank.{isFair}
 use Rattle.readings.specs.Lists.{transitionsOf, flagsOf}
@@ -45,14 +46,15 @@ sizesPass φ κ = leb (size φ) nodeLimit && (leb (operators φ) operatorLimit &
 
 -- the rule has n states, and n is within the limit
 unfoldable pub countPasses : Row → Formula → Bool
-unfolding stateCount
+unfolding machine.stateCount
 countPasses r φ = eqb (r .count) (stateCount φ (lettersOf r)) && leb (r .count) stateLimit
 
 -- the winner's ranks are a certificate on the arena whose lists and mask are computed from the definitions
 unfoldable pub winnerPasses : Row → Certificate → Formula → Formula → Bool
 unfolding winsOf transitionsOf flagsOf maskOf
 winnerPasses r c φ κ =
-    winsOf (r .can) (isFair (r .mode)) (arenaFor r (transitionsOf φ (lettersOf r)) (flagsOf φ (lettersOf r)) (maskOf κ (r .inputs))) (c .table) (c .ranks)
+    winsOf (r .can) (isFair (r .mode)) (arenaFor r (transitionsOf φ (lettersOf r)) (flagsOf φ (lettersOf r)) (maskOf κ (r .inputs))) (c .table)
+    (c .ranks)
 
 -- the test, over the two formulas
 unfoldable pub passesWith : Row → Certificate → Formula → Formula → Bool

@@ -67,7 +67,9 @@ module _ (r : Row) (c : Certificate) (e : passes r c ≡ true) where
   unfolding alphabetPasses
   alphabet = not-true→ (badAlphabet i (r .outputs)) (parts .0)
 
-  texts : ((tooLong (r .rule) || tooLong (r .condition)) ≡ false) × (readsBy (ruleKind i (r .outputs)) (r .rule) (c .rule) ≡ true) × (readsBy (conditionKind i) (r .condition) (c .condition) ≡ true)
+  texts : ((tooLong (r .rule) || tooLong (r .condition)) ≡ false)
+      × (readsBy (ruleKind i (r .outputs)) (r .rule) (c .rule) ≡ true)
+      × (readsBy (conditionKind i) (r .condition) (c .condition) ≡ true)
   unfolding textsPass
   texts =
       let long = tooLong (r .rule) || tooLong (r .condition) in
@@ -119,7 +121,8 @@ module _ (r : Row) (c : Certificate) (e : passes r c ≡ true) where
     all-won : (0 < getD (c .ranks) 0 0) × ((s : ℕ) → 0 < getD (c .ranks) s 0 → WinsFrom (r .can) (r .mode) (arenaFor r t f m) (c .table) s)
     unfolding winnerPasses
     all-won =
-        subst (λ (d : Mode). (0 < getD (c .ranks) 0 0) × ((s : ℕ) → 0 < getD (c .ranks) s 0 → WinsFrom (r .can) d (arenaFor r t f m) (c .table) s)) (same-mode (r .mode))
+        subst (λ (d : Mode). (0 < getD (c .ranks) 0 0) × ((s : ℕ) → 0 < getD (c .ranks) s 0 → WinsFrom (r .can) d (arenaFor r t f m) (c .table) s))
+        (same-mode (r .mode))
         (won i (r .outputs) φ (r .count) (maskOf κ i) m (transitionsOf φ L) (flagsOf φ L) t f held B (judge-alike κ i m (maskOf κ i) J judged-so)
         (r .can) (isFair (r .mode)) (c .table) (c .ranks) (parts .4))
 

@@ -8,7 +8,8 @@ use Rattle.listing.specs.Decimal.{digits, decimal}
 use Rattle.listing.specs.Listing.{fields, winnerFields, stateLine}
 
 -- no goal, and the environment wins with input 0
-pub environment-line : (a σ τ : List ℕ) (s : ℕ) → getD a s 0 ≡ 0 → getD τ s 0 ≡ 0 → stateLine 2 a σ τ s ≡ decimal s ++ (32 ∷ 45 ∷ 32 ∷ 79 ∷ 32 ∷ 48 ∷ 10 ∷ [])
+pub environment-line :
+    (a σ τ : List ℕ) (s : ℕ) → getD a s 0 ≡ 0 → getD τ s 0 ≡ 0 → stateLine 2 a σ τ s ≡ decimal s ++ (32 ∷ 45 ∷ 32 ∷ 79 ∷ 32 ∷ 48 ∷ 10 ∷ [])
 unfolding digits decimal fields winnerFields stateLine
 environment-line a σ τ s e f = rw (e, f) refl
 

@@ -1,21 +1,25 @@
--- The lists that are computed from the definitions hold the automaton of the formula, and any two lists that hold it agree on its states.
+-- The lists that are computed from the definitions hold the automaton of the formula.
 -- Assumes nothing.
 use Prim.Native.Nat.{ℕ, zero, suc, _+_, _*_, _≤_, _<_}
-use mathlib.Core.Path.{_≡_, refl, sym, _∙_, subst}
+use mathlib.Core.Path.{_≡_, refl, _∙_, subst}
 use mathlib.Core.List.{List, [], _∷_, _++_}
 use native.Mathlib.Nat.{not-suc-le-zero}
 use native.Mathlib.Omega.{arith}
 use borrow.Author.Count.{below-more}
 use lib.ListN.{length, getD, length-append, List·getD-append}
 use lib.Seq.{getD-append-seam}
+use Rattle.machine.specs.Discovery as machine
+use Rattle.machine.specs.Discovery.{stateAt, position, target}
+use Rattle.machine.specs.inner.Exploration.{Filled}
+use Rattle.machine.proofs.AutomatonLaws.{moved-at, automaton-holds}
 use Rattle.reader.specs.Formula.{Formula}
 use Rattle.automaton.specs.Limits.{stateLimit}
 use Rattle.automaton.specs.Bits.{one}
-use Rattle.automaton.specs.State.{accepts}
-use Rattle.automaton.specs.Discovery.{position, target, states, stateCount}
+use Rattle.automaton.specs.Trace.{Satisfies}
+use Rattle.automaton.specs.State.{accepts, machineOf}
+use Rattle.automaton.specs.Discovery.{states, stateCount}
 use Rattle.automaton.specs.Automaton.{Automaton}
-use Rattle.automaton.specs.inner.Exploration.{Filled}
-use Rattle.automaton.proofs.AutomatonLaws.{moved-at, automaton-holds}
+use Rattle.automaton.proofs.Meaning.{formula-recognizes}
 use Rattle.readings.specs.Lists.{listOf, transitionsOf, flagsOf}
 
 listOf-length : (f : ℕ → ℕ) (n : ℕ) → length (listOf f n) ≡ n
@@ -34,21 +38,12 @@ listOf-at f (suc n) k h =
 
 -- the computed lists hold the automaton, where it has at most 128 states
 pub computed : (φ : Formula) (L : ℕ) → 0 < L → stateCount φ L ≤ stateLimit → Automaton φ L (stateCount φ L) (transitionsOf φ L) (flagsOf φ L)
-unfolding transitionsOf flagsOf stateCount Filled
+unfolding transitionsOf flagsOf machine.stateCount Filled
 computed φ L pos few =
     let n = length (states φ L) in
-    automaton-holds φ L n (transitionsOf φ L) (flagsOf φ L) pos refl
-    (moved-at φ L n (transitionsOf φ L) pos few refl (λ u h. listOf-at (λ v. position (target φ L (states φ L) v) (states φ L)) (n * L) u h))
-    (λ s h. listOf-at (λ t. one (accepts φ (getD (states φ L) t 0))) n s h)
-    few
-
--- two automata of one formula agree
-module _ {φ : Formula} {L n : ℕ} {t f t′ f′ : List ℕ} (A : Automaton φ L n t f) (B : Automaton φ L n t′ f′) where
-  pub same-transition : (s a : ℕ) → s < n → a < L → getD t (s * L + a) 0 ≡ getD t′ (s * L + a) 0
-  same-transition s a hs ha =
-      let x = A .moved s a hs ha in
-      let y = B .moved s a hs ha in
-      A .numbering .distinct (getD t (s * L + a) 0) (getD t′ (s * L + a) 0) (omega (arith, x .0, A .count)) (omega (arith, y .0, A .count)) (x .1 ∙ sym (y .1))
-
-  pub same-flag : (s : ℕ) → s < n → getD f s 0 ≡ getD f′ s 0
-  same-flag s hs = A .marked s hs ∙ sym (B .marked s hs)
+    let M = machineOf φ in
+    automaton-holds M L stateLimit n pos refl (transitionsOf φ L) (flagsOf φ L)
+    (moved-at M L stateLimit n pos refl (transitionsOf φ L) few
+    (λ u h. listOf-at (λ v. position M (target M L (states φ L) v) (states φ L)) (n * L) u h))
+    (λ s h. listOf-at (λ t. one (accepts φ (stateAt M (states φ L) t))) n s h)
+    (Satisfies φ) (formula-recognizes φ L) few

@@ -20,7 +20,7 @@ use Rattle.automaton.specs.Bits.{bit, ofBits, gather}
 use Rattle.automaton.specs.Condition.{maskOf}
 use Rattle.automaton.specs.Valuation.{value, coords, ends, present, endVector, vectors}
 use Rattle.automaton.specs.State.{start, after, accepts}
-use Rattle.automaton.specs.Discovery.{position, extend, target, look, discovered, states, stateCount}
+use Rattle.machine.specs.Discovery.{position, extend, target, look, discovered, states, stateCount}
 use Rattle.game.specs.declared.answer.Answer.{Answer}
 use Rattle.game.specs.declared.answer.Answer.the-variants.{Cannot}
 use Rattle.plays.specs.declared.mode.Mode.the-variants.{Fair}
@@ -38,7 +38,7 @@ use Rattle.readings.specs.Row.{Row, rowOf, arenaFor}
 use Rattle.readings.specs.Example.{exampleInput, exampleListing}
 use Rattle.readings.proofs.Tree.{single, prefixed, flat, formulaOf, fits, sameBytes, readsBy}
 use Rattle.readings.proofs.Test.{below, stepOf, outputOf, inputOf, bytesOf, stateOf, winsOf}
-use Rattle.readings.proofs.ListLaws.{same-transition, same-flag}
+use Rattle.machine.proofs.OneAutomaton.{one-move, one-flag}
 use Rattle.readings.proofs.Certificate.{Certificate, certificate, alphabetPasses, textsPass, sizesPass, countPasses, winnerPasses, passesWith, passes}
 use Rattle.readings.proofs.CertificateLaws.{held, ranked-won, reading, reading-formulas}
 use Rattle.readings.proofs.Answers.{Held, answered}
@@ -56,7 +56,8 @@ never = certificate (prefixed 70 (single 97)) (single 49) (0 ∷ 0 ∷ []) (1 �
 -- the row's certificate passes
 passed : passes example never ≡ true
 unfolding passes passesWith alphabetPasses textsPass sizesPass countPasses winnerPasses readsBy sameBytes fits formulaOf flat winsOf stateOf bytesOf inputOf outputOf stepOf below next goal holds
-    maskOf flagsOf transitionsOf listOf stateCount states discovered look target extend position accepts after start vectors endVector present ends coords value gather ofBits bit
+    maskOf flagsOf transitionsOf listOf stateCount states discovered look target extend position accepts after start vectors endVector present ends
+    coords value gather ofBits bit
     withoutBlanks binaryOf unaryOf operandOf markKind amongOf isTemporalMark allowedBy kindIn operators size
 passed = refl
 
@@ -83,7 +84,7 @@ module _ (old new : Buffers) (h : Held example φ κ old new false) where
   G = arenaFor example (new .transitions) (new .accepting) (h .mask)
 
   flag : (s : ℕ) → s < 3 → getD (new .accepting) s 0 ≡ getD (0 ∷ 0 ∷ 1 ∷ []) s 0
-  flag s l = same-flag (h .automaton) (held example never passed) s l ∙ ap (λ (f : List ℕ). getD f s 0) flags-are
+  flag s l = one-flag (h .automaton) (held example never passed) s l ∙ ap (λ (f : List ℕ). getD f s 0) flags-are
 
   -- where input x leads from s
   abbrev led : ℕ → ℕ → ℕ
@@ -94,7 +95,7 @@ module _ (old new : Buffers) (h : Held example φ κ old new false) where
   leads s x hs hx =
       let e : x + 2 * 0 ≡ x = omega arith in
       ap (λ (k : ℕ). getD (new .transitions) (s * 2 + k) 0) e
-      ∙ same-transition (h .automaton) (held example never passed) s x hs hx
+      ∙ one-move (h .automaton) (held example never passed) s x hs hx
       ∙ ap (λ (t : List ℕ). getD t (s * 2 + x) 0) transitions-are
 
   into-goal : (s x : ℕ) → s < 3 → x < 2 → led s x ≡ 2 → goal G (next G s x 0) ≡ true
@@ -114,7 +115,9 @@ module _ (old new : Buffers) (h : Held example φ κ old new false) where
   byte-0 : (s : ℕ) → s < 3 → 0 < getD (never .ranks) s 0 → led s 1 ≡ 2 → getD (new .environment) s 0 ≡ 0
   byte-0 s l rank e =
       ⊎-elim
-      (λ w. absurd (one-winner Fair G (new .system) (never .table) s (w .wins) (ranked-won example never passed (new .transitions) (new .accepting) (h .mask) (h .automaton) (h .judges) s rank)))
+      (λ w.
+      absurd (one-winner Fair G (new .system) (never .table) s (w .wins)
+      (ranked-won example never passed (new .transitions) (new .accepting) (h .mask) (h .automaton) (h .judges) s rank)))
       (not-1 s l e)
       (h .tables .won s l)
 
@@ -170,7 +173,9 @@ asks =
     }
 
 -- and no other request, so an answer to one that they are is an answer to it
-moved : (i o : ℕ) (mode : Mode) (c ρ text : List ℕ) → (i ≡ 1) × (o ≡ 0) × (mode ≡ Fair) × (c ≡ 49 ∷ []) × (ρ ≡ 70 ∷ 97 ∷ []) → Answers i o mode c ρ text → Answers 1 0 Fair (49 ∷ []) (70 ∷ 97 ∷ []) text
+moved :
+    (i o : ℕ) (mode : Mode) (c ρ text : List ℕ) → (i ≡ 1) × (o ≡ 0) × (mode ≡ Fair) × (c ≡ 49 ∷ []) × (ρ ≡ 70 ∷ 97 ∷ []) → Answers i o mode c ρ text
+    → Answers 1 0 Fair (49 ∷ []) (70 ∷ 97 ∷ []) text
 moved i o mode c ρ text e q =
     subst (λ (j : ℕ). Answers j 0 Fair (49 ∷ []) (70 ∷ 97 ∷ []) text) (e .0)
     (subst (λ (j : ℕ). Answers i j Fair (49 ∷ []) (70 ∷ 97 ∷ []) text) (e .1)
@@ -192,14 +197,16 @@ printed-example {output} {output′} {r} l =
     (prints-listing (l .text) (l .prints)) (l .written, l .count)
 
 -- an output of at least its 35 bytes holds the whole of it
-pub printed-whole : {output output′ : List ℕ} {r : ℕ} → Listed exampleInput output output′ r → 35 ≤ length output → (r ≡ 35) × (output′ ≡ exampleListing ++ drop 35 output)
+pub printed-whole : {output output′ : List ℕ} {r : ℕ} → Listed exampleInput output output′ r → 35 ≤ length output
+    → (r ≡ 35) × (output′ ≡ exampleListing ++ drop 35 output)
 unfolding exampleListing
 printed-whole {output} {output′} {r} l h =
     let w = printed-example l in
     (w .1 ∙ min-eq-left h, w .0 ∙ ap (λ (t : List ℕ). t ++ drop 35 output) (take-all (length output) exampleListing h))
 
 -- the promise of the program's call where what was read is the four lines: it answers with the whole of the listing
-pub printed-response : {bytes output output′ : List ℕ} {got r : ℕ} → take got bytes ≡ exampleInput → Responded bytes got output output′ r → (r ≡ 35) × (take r output′ ≡ exampleListing)
+pub printed-response : {bytes output output′ : List ℕ} {got r : ℕ} → take got bytes ≡ exampleInput → Responded bytes got output output′ r
+    → (r ≡ 35) × (take r output′ ≡ exampleListing)
 unfolding exampleListing
 printed-response {bytes} {output} {output′} {got} {r} e x =
     let t : x .text ≡ exampleListing = prints-listing (x .text) (subst (λ (i : List ℕ). Prints i (x .text)) e (x .prints)) in

@@ -42,13 +42,15 @@ unfolding sameBytes
 same-bytes [] [] e = refl
 same-bytes [] (c ∷ v) e = absurd (mathlib.Core.Bool.false≢true e)
 same-bytes (b ∷ u) [] e = absurd (mathlib.Core.Bool.false≢true e)
-same-bytes (b ∷ u) (c ∷ v) e = let w = and-true (eqb b c) (sameBytes u v) e in ap₂ (λ (x : ℕ) (s : List ℕ). x ∷ s) (eqb-true b c (w .0)) (same-bytes u v (w .1))
+same-bytes (b ∷ u) (c ∷ v) e =
+    let w = and-true (eqb b c) (sameBytes u v) e in ap₂ (λ (x : ℕ) (s : List ℕ). x ∷ s) (eqb-true b c (w .0)) (same-bytes u v (w .1))
 
 module _ (i : ℕ) (kind : ℕ → Kind) where
   -- a formula of a level is one of every level above
   raise : (l m : ℕ) {w : List ℕ} {φ : Formula} → m ≤ l → Derives i kind m w φ → Derives i kind l w φ
   raise zero m {w} {φ} h d = subst (λ (k : ℕ). Derives i kind k w φ) (let e : m ≡ 0 = omega arith in e) d
-  raise (suc l) m {w} {φ} h d = ⊎-elim (λ e. subst (λ (k : ℕ). Derives i kind k w φ) e d) (λ g. lower (raise l m (le-of-suc-le-suc g) d)) (eq-or-lt-of-le h)
+  raise (suc l) m {w} {φ} h d =
+      ⊎-elim (λ e. subst (λ (k : ℕ). Derives i kind k w φ) e d) (λ g. lower (raise l m (le-of-suc-le-suc g) d)) (eq-or-lt-of-le h)
 
   derives : (l : ℕ) (t : Tree) → fits kind l t ≡ true → Derives i kind l (flat t) (formulaOf i t)
   unfolding fits flat formulaOf
@@ -64,7 +66,8 @@ module _ (i : ℕ) (kind : ℕ → Kind) where
       let w = and-true (leb (suc m) l) (sameKind (kind b) (Infix (suc m)) && (fits kind m t && fits kind (suc m) u)) e in
       let v = and-true (sameKind (kind b) (Infix (suc m))) (fits kind m t && fits kind (suc m) u) (w .1) in
       let z = and-true (fits kind m t) (fits kind (suc m) u) (v .1) in
-      raise l (suc m) (leb-true (suc m) l (w .0)) (infixed (same-kind (kind b) (Infix (suc m)) (v .0)) (derives m t (z .0)) (derives (suc m) u (z .1)) refl)
+      raise l (suc m) (leb-true (suc m) l (w .0))
+      (infixed (same-kind (kind b) (Infix (suc m)) (v .0)) (derives m t (z .0)) (derives (suc m) u (z .1)) refl)
 
   pub reads : (text : List ℕ) (t : Tree) → readsBy kind text t ≡ true → Reads i kind text (formulaOf i t)
   unfolding readsBy

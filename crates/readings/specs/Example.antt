@@ -1,5 +1,6 @@
 -- The specification's printed example ("Program"): the four lines that the program reads, and what it prints, as bytes, each line under
--- its text. proofs/PrintedExample.antt: the promise of the listing call leaves it no other text. tests/tests/readings.rs reads both lists and holds them against the specification's.
+-- its text. proofs/PrintedExample.antt: the promise of the listing call leaves it no other text. tests/tests/readings.rs reads both lists and holds them
+-- against the specification's.
 -- Assumes nothing.
 use Prim.Native.Nat.{ℕ}
 use mathlib.Core.List.{List, [], _∷_}

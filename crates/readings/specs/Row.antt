@@ -67,7 +67,8 @@ pub record RowHolds (r : Row) : Type 0 where
   pub counted : r .count ≡ stateCount formula (lettersOf r)
   pub few : r .count ≤ stateLimit
   pub automaton : Automaton formula (lettersOf r) (r .count) (transitionsOf formula (lettersOf r)) (flagsOf formula (lettersOf r))
-  pub verdict : (transitions flags : List ℕ) (mask : ℕ) → Automaton formula (lettersOf r) (r .count) transitions flags → Judges assumption (r .inputs) mask
+  pub verdict :
+      (transitions flags : List ℕ) (mask : ℕ) → Automaton formula (lettersOf r) (r .count) transitions flags → Judges assumption (r .inputs) mask
       → VerdictOn (r .can) (r .mode) formula (arenaFor r transitions flags mask)
 
 -- the rule call's promise for the row's texts
@@ -77,7 +78,10 @@ SolvedFor r old new answer = RuleSolved (r .mode) (r .inputs) (r .outputs) (r .r
 -- what that promise makes of the row: in buffers that are long enough it answers with this verdict and this n
 abbrev pub Answered : Row → Type 0
 Answered r =
-    (old new : Buffers) (answer : Answer) → shortBuffers (r .inputs) (r .outputs) old ≡ false → SolvedFor r old new answer → answer ≡ verdictOf (r .can) (r .count)
+    (old new : Buffers) (answer : Answer)
+    → shortBuffers (r .inputs) (r .outputs) old ≡ false
+    → SolvedFor r old new answer
+    → answer ≡ verdictOf (r .can) (r .count)
 
 -- P holds of every row of a list
 abbrev pub All : (Row → Type 0) → List Row → Type 0

@@ -1,5 +1,6 @@
 -- The rows that the specification ("Readings") marks as proved, each under its texts in letters. proofs/Readings.antt: every row is a reading.
--- proofs/Answers.antt: so the rule call's promise leaves it no other answer to them. tests/tests/readings.rs reads this list and holds it against the specification's.
+-- proofs/Answers.antt: so the rule call's promise leaves it no other answer to them. tests/tests/readings.rs reads this list and holds it against the
+-- specification's.
 -- Assumes nothing.
 use mathlib.Core.Bool.{true, false}
 use mathlib.Core.List.{List, [], _∷_}

@@ -1,4 +1,4 @@
-//! README: runs the built program `airtable` over seeded inputs on its standard input and compares
+//! Runs the built program `airtable` over seeded inputs on its standard input and compares
 //! its standard output with the solver's listing. Where table bytes are free the listing is taken
 //! apart and its rows are judged. Standard error stays empty, but where the program cannot read or
 //! write: that is tried first, then the files named on the command line.

@@ -1,5 +1,5 @@
--- `airtable::receive` is safe and ends. Invariant: what was read lies within the input, whose length stays. Measure: the room that is left, which falls, since a
--- turn that goes on has read a byte.
+-- `airtable::receive` is safe and ends. Invariant: what was read lies within the input, whose length stays. Measure: the room that is left, which falls,
+-- since a turn that goes on has read a byte.
 -- Assumes nothing.
 use Prim.Native.Nat.{ℕ, _+_, _-_, _≤_}
 use mathlib.Core.Path.{_≡_, _∙_}

@@ -2,8 +2,7 @@
 -- Assumes nothing.
 use Prim.Native.Nat.{ℕ, _^_, _<_, _≤_}
 use mathlib.Core.Bool.{Bool}
-use Rattle.game.specs.inner.Limits.{numberLimit}
-use Rattle.automaton.specs.Limits.{stateLimit}
+use Rattle.automaton.specs.Limits.{numberLimit, stateLimit}
 use Rattle.game.specs.declared.arena.Sizes.{Sizes}
 use Rattle.game.specs.declared.arena.Game.{Game}
 

@@ -26,7 +26,8 @@ isDigit b = leb 48 b && leb b 57
 
 -- whether the first line is a digit, a blank and a digit
 unfoldable pub digitLine : List ℕ → Bool
-digitLine input = ltb 3 (length input) && (isDigit (getD input 0 0) && (eqb (getD input 1 0) blank && (isDigit (getD input 2 0) && eqb (getD input 3 0) newline)))
+digitLine input =
+    ltb 3 (length input) && (isDigit (getD input 0 0) && (eqb (getD input 1 0) blank && (isDigit (getD input 2 0) && eqb (getD input 3 0) newline)))
 
 -- whether the second line, where the first has three bytes, is `fair`, and whether it is `stable`
 abbrev pub isFairLine : List ℕ → Bool

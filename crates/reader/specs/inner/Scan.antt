@@ -2,7 +2,7 @@
 -- Assumes nothing.
 use Prim.Native.Nat.{ℕ, zero, suc}
 use mathlib.Core.Bool.{Bool, true, false, cond}
-use mathlib.Core.List.{List, [], _∷_}
+use mathlib.Core.List.{[], _∷_}
 use lib.Dec.{eqb}
 use Rattle.reader.specs.declared.marks.Kind.{Kind}
 use Rattle.reader.specs.declared.marks.Kind.the-variants.{Operand, Prefix, Infix, Open, Close, Other}
@@ -10,9 +10,10 @@ use Rattle.reader.specs.declared.scan.Step.{Step}
 use Rattle.reader.specs.declared.scan.Step.the-variants.{Next, Stuck}
 use Rattle.reader.specs.declared.scan.Scanned.{Scanned}
 use Rattle.reader.specs.declared.scan.Scanned.the-variants.{Whole, Stopped}
+use Rattle.reader.specs.Text.{Text}
 
 -- the step at a mark, with an operand due (true) or after one (false), and d parentheses open
-abbrev pub markStep : Kind → Bool → ℕ → Step
+abbrev pub markStep : (k : Kind) (w : Bool) (d : ℕ) → Step
 markStep Operand true d = Next false d
 markStep Operand false d = Stuck
 markStep Prefix true d = Next true d
@@ -27,21 +28,21 @@ markStep Close false (suc d) = Next false d
 markStep Other w d = Stuck
 
 -- the step at a byte: a blank changes nothing
-unfoldable pub stepOf : (ℕ → Kind) → ℕ → Bool → ℕ → Step
+unfoldable pub stepOf : (kind : ℕ → Kind) (b : ℕ) (w : Bool) (d : ℕ) → Step
 stepOf kind b w d = cond (eqb b 32) (Next w d) (markStep (kind b) w d)
 
 -- the pass goes on after a step, or stops at the place
-abbrev pub follow : Step → ℕ → (Bool → ℕ → Scanned) → Scanned
+abbrev pub follow : Step → (at : ℕ) → (Bool → ℕ → Scanned) → Scanned
 follow (Next w d) at k = k w d
 follow Stuck at k = Stopped at
 
 -- the end of the text: whole after an operand with no parenthesis open
-abbrev pub endOf : Bool → ℕ → ℕ → Scanned
+abbrev pub endOf : (w : Bool) (d at : ℕ) → Scanned
 endOf true d at = Stopped at
 endOf false zero at = Whole
 endOf false (suc d) at = Stopped at
 
 -- the pass over the bytes that are left, from the place at on
-unfoldable pub scanOf : (ℕ → Kind) → List ℕ → ℕ → Bool → ℕ → Scanned
+unfoldable pub scanOf : (kind : ℕ → Kind) (s : Text) (at : ℕ) (w : Bool) (d : ℕ) → Scanned
 scanOf kind [] at w d = endOf w d at
 scanOf kind (b ∷ s) at w d = follow (stepOf kind b w d) at (scanOf kind s (suc at))

@@ -9,6 +9,8 @@ use lib.Seq.{sets}
 use Rattle.reader.specs.declared.marks.Kind.{Kind}
 use Rattle.reader.specs.declared.marks.Kind.the-variants.{Operand, Prefix, Infix, Open, Close, Other}
 use Rattle.reader.specs.declared.levels.Pos.{Pos}
+use Rattle.reader.specs.Text.{Text}
+use Rattle.reader.specs.Limits.{nodeLimit, operatorLimit}
 use Rattle.reader.specs.Formula.{Formula, size, operators}
 use Rattle.reader.specs.Marks.{markKind}
 use Rattle.reader.specs.Grammar.{withoutBlanks, Derives}
@@ -16,11 +18,11 @@ use Rattle.reader.specs.inner.Nodes.{code}
 use Rattle.reader.specs.inner.Counts.{tick}
 
 -- no blank is at the place
-abbrev pub NotBlank : List ℕ → ℕ → Type 0
+abbrev pub NotBlank : (text : Text) (at : ℕ) → Type 0
 NotBlank text at = at < length text → getD text at 0 ≡ 32 → ⊥
 
 -- r is past the blanks from at on
-pub record PastBlanks (text : List ℕ) (at r : ℕ) : Type 0 where
+pub record PastBlanks (text : Text) (at r : ℕ) : Type 0 where
   pub from : at ≤ r
   pub within : r ≤ length text
   pub no-blank : NotBlank text r
@@ -52,17 +54,17 @@ isPrefix Close = false
 isPrefix Other = false
 
 -- the level of the first of the marks
-abbrev pub firstLevel : List ℕ → ℕ
+abbrev pub firstLevel : Text → ℕ
 firstLevel [] = 0
 firstLevel (b ∷ s) = levelOf (markKind b)
 
 -- r is the level of the mark at the place
-pub record LevelAt (text : List ℕ) (at r : ℕ) : Type 0 where
+pub record LevelAt (text : Text) (at r : ℕ) : Type 0 where
   pub first : r ≡ firstLevel (withoutBlanks (drop at text))
   pub inside : 0 < r → at < length text
 
 -- r is past the mark at p
-pub record PastMark (text : List ℕ) (p r : Pos) : Type 0 where
+pub record PastMark (text : Text) (p r : Pos) : Type 0 where
   pub past : p .at < r .at
   pub within : r .at ≤ length text
   pub no-blank : NotBlank text (r .at)
@@ -71,33 +73,34 @@ pub record PastMark (text : List ℕ) (p r : Pos) : Type 0 where
   pub coordinate : r .coordinate ≡ p .coordinate + tick (getD text (p .at) 0)
 
 -- the marks can follow a formula of the level: none of them, or one that does not extend it
-abbrev pub CanFollow : ℕ → List ℕ → Type 0
+abbrev pub CanFollow : (l : ℕ) → Text → Type 0
 CanFollow l [] = Unit {0}
 CanFollow l (b ∷ s) = (m : ℕ) → markKind b ≡ Infix m → l < m
 
 -- a formula of the level is at p, and the buffer has room for its nodes
-pub record Readable (i l : ℕ) (text : List ℕ) (p : Pos) (room : ℕ) : Type 0 where
+pub record Readable (i l : ℕ) (text : Text) (p : Pos) (room : ℕ) : Type 0 where
   pub no-blank : NotBlank text (p .at)
   pub formula : Formula
-  pub taken : List ℕ
-  pub rest : List ℕ
+  pub taken : Text
+  pub rest : Text
   pub here : withoutBlanks (drop (p .at) text) ≡ taken ++ rest
   pub derived : Derives i markKind l taken formula
   pub follows : CanFollow l rest
   pub fits : p .nodes + size formula ≤ room
-  pub few : p .coordinate + operators formula ≤ 64
-  pub small : room ≤ 64
+  pub few : p .coordinate + operators formula ≤ operatorLimit + 1
+  pub small : room ≤ nodeLimit
 
 -- the formula at p has been read up to r, where the marks `rest` are left, and its nodes are written
-pub record Parsed (text : List ℕ) (p : Pos) (out : List ℕ) (r : Pos) (out′ rest : List ℕ) (φ : Formula) : Type 0 where
+pub record Parsed (text : Text) (p : Pos) (out : List ℕ) (r : Pos) (out′ : List ℕ) (rest : Text) (φ : Formula) : Type 0 where
   pub left : withoutBlanks (drop (r .at) text) ≡ rest
   pub nodes : r .nodes ≡ p .nodes + size φ
   pub coordinate : r .coordinate ≡ p .coordinate + operators φ
   pub written : out′ ≡ sets out (p .nodes) (code (p .nodes) (p .coordinate) φ)
 
 -- every formula of the level that is at p has been read up to r, and its nodes written
-pub record Consumed (i l : ℕ) (text : List ℕ) (p : Pos) (out : List ℕ) (r : Pos) (out′ : List ℕ) : Type 0 where
+pub record Consumed (i l : ℕ) (text : Text) (p : Pos) (out : List ℕ) (r : Pos) (out′ : List ℕ) : Type 0 where
   pub past : p .at < r .at
   pub within : r .at ≤ length text
   pub no-blank : NotBlank text (r .at)
-  pub reads : (w rest : List ℕ) (φ : Formula) → withoutBlanks (drop (p .at) text) ≡ w ++ rest → Derives i markKind l w φ → CanFollow l rest → Parsed text p out r out′ rest φ
+  pub reads : (w rest : Text) (φ : Formula)
+      → withoutBlanks (drop (p .at) text) ≡ w ++ rest → Derives i markKind l w φ → CanFollow l rest → Parsed text p out r out′ rest φ

@@ -1,4 +1,4 @@
-//! README: one plain function for each call of include/airtable.h, which hands back every value that
+//! One plain function for each call of include/airtable.h, which hands back every value that
 //! the call may have written.
 
 use crate::common::{Lent, SENTINEL};

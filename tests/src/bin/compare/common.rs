@@ -1,4 +1,4 @@
-//! README: what all kinds of cases share: lent buffers with canaries, the comparing of refusals,
+//! What all kinds of cases share: lent buffers with canaries, the comparing of refusals,
 //! the choice of signatures and lengths, the tally, and the printing of bytes.
 
 use crate::capi::Told;

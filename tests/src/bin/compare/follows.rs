@@ -1,4 +1,4 @@
-//! README: the follower along plays on handed-out tables, and on random bytes with faults.
+//! The follower along plays on handed-out tables, and on random bytes with faults.
 
 use crate::capi::{self, Followed};
 use crate::common::*;

@@ -1,4 +1,4 @@
-//! README: the call for a given automaton: shapes of every kind, refusals with several faults at
+//! The call for a given automaton: shapes of every kind, refusals with several faults at
 //! once, and buffers.
 
 use crate::capi::{self, mode_byte};

@@ -1,4 +1,4 @@
-//! README: cases that are listed and not drawn: all short texts, every byte value in every kind
+//! Cases that are listed and not drawn: all short texts, every byte value in every kind
 //! of place, every length, and all games of two states with one input and one output.
 
 use crate::common::{Lent, Tally};

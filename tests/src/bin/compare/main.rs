@@ -1,4 +1,4 @@
-//! README: calls the library (through its C functions) and the solver on many seeded inputs and
+//! Calls the library (through its C functions) and the solver on many seeded inputs and
 //! compares everything that the specification determines; free table bytes are judged by the judge.
 //!
 //!   compare [--seed N] [--times K] [--kind NAME [--case C]]

@@ -1,4 +1,4 @@
-//! README: plays on rules by the letter of the specification: the library's tables are followed step by step, and
+//! Plays on rules by the letter of the specification: the library's tables are followed step by step, and
 //! after each step the list of letters so far is asked for by the meaning of the rule, position by
 //! position, by the library's trial, and by the mark of the state entered; all three must agree.
 

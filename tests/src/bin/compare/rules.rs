@@ -1,4 +1,4 @@
-//! README: the call for a rule: texts, refusals with several faults at once, buffers, and rules
+//! The call for a rule: texts, refusals with several faults at once, buffers, and rules
 //! with many states.
 
 use crate::capi::{self, mode_byte, Told};

@@ -1,4 +1,4 @@
-//! README: what the sources state, run through the library: the readings of the specification and the
+//! What the sources state, run through the library: the readings of the specification and the
 //! rows of published.tsv. A row that is called valid, an equivalence most often, is tried on lists.
 
 use crate::common::*;

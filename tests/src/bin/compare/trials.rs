@@ -1,4 +1,4 @@
-//! README: the trial on texts and lists of every kind.
+//! The trial on texts and lists of every kind.
 
 use crate::capi;
 use crate::common::{check_answer, check_number, hex, shown, wild_count, Tally};

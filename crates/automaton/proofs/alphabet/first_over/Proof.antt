@@ -7,7 +7,7 @@ use native.Mathlib.Nat.{zero-add}
 use native.Mathlib.Omega.{arith}
 use lib.ListN.{length, drop}
 use denote.Ref.{now}
-use Rattle.automaton.specs.Trial.{firstOver}
+use Rattle.automaton.specs.Alphabet.{firstOver}
 use Rattle.automaton.proofs.FirstOverLaws.{over-here, over-later, over-end}
 use Rattle.automaton.proofs.alphabet.first_over.Statement.{statement}
 use Rattle.automaton.proofs.alphabet.first_over.Tie as tie

@@ -11,6 +11,7 @@ use denote.Ref.{now}
 use Rattle.reader.specs.Limits.{tooLong}
 use Rattle.reader.proofs.RefusalLaws.{not-good}
 use Rattle.reader.proofs.StaticLaws.{static}
+use Rattle.automaton.specs.Limits.{nameLimit, numberLimit}
 use Rattle.automaton.specs.Alphabet.{badAlphabet}
 use Rattle.automaton.specs.Bits.{ofBits}
 use Rattle.automaton.specs.Valuation.{value}
@@ -65,7 +66,8 @@ too-long-requires c κs = search needs
 returns-2 : tie.Need-returns-2
 returns-2 c =
     let z = c .before .before .before .before .before .args in
-    by-length (z .i) (now (z .text)) (sym (c .before .before .before .bad-alphabet .ensures) ∙ c .before .before .if1 .left) (sym (c .before .too-long .ensures) ∙ c .if2 .taken)
+    by-length (z .i) (now (z .text)) (sym (c .before .before .before .bad-alphabet .ensures) ∙ c .before .before .if1 .left)
+    (sym (c .before .too-long .ensures) ∙ c .if2 .taken)
 
 cast-read : tie.Need-cast-read
 cast-read c = let z = c .before .before .before .before .before .args in omega (arith, inputs-fit (z .i) 0 (fits c))
@@ -76,15 +78,16 @@ read-requires c κs = search needs
 enum-known-reading : tie.Need-enum-known-reading
 enum-known-reading c = search needs
 
-condition-refusal-requires : tie.Need-condition-refusal-requires
-condition-refusal-requires c κs = search needs
+text-refusal-requires : tie.Need-text-refusal-requires
+text-refusal-requires c κs = search needs
 
 returns-3 : tie.Need-returns-3
 returns-3 c =
     let e = c .before .before .before .before in
     let z = e .before .before .before .before .before .args in
     let r = c .before .before .read in
-    by-reading (z .i) (now (z .text)) (fits e) (short e) (r .result) (r .ensures .0) (not-good (r .result) (c .before .match .keys2)) (c .condition-refusal .result) (c .condition-refusal .ensures)
+    by-reading (z .i) (now (z .text)) (fits e) (short e) (r .result) (r .ensures .0)
+    (not-good (r .result) (c .before .match .keys2)) (c .text-refusal .result) (c .text-refusal .ensures)
 
 power-requires : tie.Need-power-requires
 power-requires c κs = search needs
@@ -95,7 +98,7 @@ condition-mask-requires c κs =
     let z = begin k .args in
     let v = represented k .represents in
     let h = inputs-fit (z .i) 0 (fits (k .before .before .before .before .before)) in
-    let m : 2 ^ z .i ≤ 16 = pow-mono {j = 4} h in
+    let m : 2 ^ z .i ≤ numberLimit = pow-mono {j = nameLimit} h in
     (omega (arith, v .few-nodes, v .count), omega (arith, inputs-are c))
 
 returns-4 : tie.Need-returns-4
@@ -120,7 +123,7 @@ read-condition-spec =
     cast-read
     read-requires
     enum-known-reading
-    condition-refusal-requires
+    text-refusal-requires
     returns-3
     power-requires
     condition-mask-requires

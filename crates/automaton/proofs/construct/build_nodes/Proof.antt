@@ -5,19 +5,22 @@ use borrow.Author.Needs.{needs}
 use mathlib.Core.Path.{_≡_}
 use Prim.Native.Nat.{ℕ, suc, _+_, _≤_}
 use native.Mathlib.Omega.{arith}
+use Rattle.reader.specs.Limits.{nodeLimit}
 use Rattle.reader.specs.Formula.{Formula, operators}
+use Rattle.automaton.specs.Limits.{coordinateLimit}
 use Rattle.automaton.specs.inner.Representation.{Represents}
 use Rattle.automaton.proofs.construct.build_nodes.Statement.{statement}
 use Rattle.automaton.proofs.construct.build_nodes.Tie as tie
 
 -- the width, for a formula that the nodes represent
-width-is : (c : tie.After-operator-count) (φ : Formula) → Represents (c .before .before .before .args .nodes .now) (c .before .before .before .args .count) φ → c .operator-count .result + 1 ≡ suc (operators φ)
+width-is : (c : tie.After-operator-count) (φ : Formula)
+    → Represents (c .before .before .before .args .nodes .now) (c .before .before .before .args .count) φ → c .operator-count .result + 1 ≡ suc (operators φ)
 width-is c φ r = omega (arith, c .operator-count .ensures .0 φ r)
 
-narrow : (c : tie.After-operator-count) → c .operator-count .result + 1 ≤ 6
+narrow : (c : tie.After-operator-count) → c .operator-count .result + 1 ≤ coordinateLimit
 narrow c = let p = c .before .before .before .pre .0 in omega (arith, width-is c (p .0) (p .1), p .1 .few-operators)
 
-short : (c : tie.Start) → c .args .count ≤ 64
+short : (c : tie.Start) → c .args .count ≤ nodeLimit
 short c = let p = c .pre .0 in omega (arith, p .1 .count, p .1 .few-nodes)
 
 operator-count-requires : tie.Need-operator-count-requires
@@ -34,8 +37,15 @@ tabulate-requires c κs = (short (c .before .before .before .before), narrow (c 
 
 build-requires : tie.Need-build-requires
 build-requires c κs =
-    let z = c .before .before .before .before .before .before .before .before in
-    (omega arith, narrow (c .before .before .before .before .before), c .before .before .before .before .end-vector .ensures .1, z .pre .1 .0, z .pre .1 .1, z .pre .1 .2, z .pre .1 .3)
+    let z = c .before .before .before .before .before .before .before .before in (
+      omega arith,
+      narrow (c .before .before .before .before .before),
+      c .before .before .before .before .end-vector .ensures .1,
+      z .pre .1 .0,
+      z .pre .1 .1,
+      z .pre .1 .2,
+      z .pre .1 .3,
+    )
 
 same-length : tie.Need-same-length
 same-length c = search needs
@@ -48,7 +58,9 @@ returns c =
     let b = c .before .before .before .before in
     let t = b .before .before .before .before in
     let e = t .before in (
-      λ φ r. b .build .ensures .0 φ (t .tabulate .ensures φ r (width-is (e .before) φ r)) (width-is (e .before) φ r) (e .end-vector .ensures .0 φ r (width-is (e .before) φ r)),
+      λ φ r.
+          b .build .ensures .0 φ (t .tabulate .ensures φ r (width-is (e .before) φ r)) (width-is (e .before) φ r)
+          (e .end-vector .ensures .0 φ r (width-is (e .before) φ r)),
       b .build .ensures .1,
     )
 

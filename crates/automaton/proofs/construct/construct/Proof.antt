@@ -35,10 +35,12 @@ letters-of c = let z = begin₂ (c .before) .args in letters-fit (z .i) (z .o) (
 
 -- the test of the buffers, by the number of letters
 buffers : (c : tie.After-short-automaton) (b : Bool) → c .short-automaton .result ≡ b
-    → shortAutomaton (letterCount (begin₂ (c .before .before .before .before) .args .i) (begin₂ (c .before .before .before .before) .args .o)) (now (begin₂ (c .before .before .before .before) .args .transitions)) (now (begin₂ (c .before .before .before .before) .args .accepting)) ≡ b
+    → shortAutomaton (letterCount (begin₂ (c .before .before .before .before) .args .i) (begin₂ (c .before .before .before .before) .args .o))
+    (now (begin₂ (c .before .before .before .before) .args .transitions)) (now (begin₂ (c .before .before .before .before) .args .accepting)) ≡ b
 buffers c b e =
     let z = begin₂ (c .before .before .before .before) .args in
-    ap (λ (L : ℕ). shortAutomaton L (now (z .transitions)) (now (z .accepting))) (sym (letters-of (c .before .before .before) .is)) ∙ sym (c .short-automaton .ensures) ∙ e
+    ap (λ (L : ℕ). shortAutomaton L (now (z .transitions)) (now (z .accepting))) (sym (letters-of (c .before .before .before) .is))
+    ∙ sym (c .short-automaton .ensures) ∙ e
 
 -- the reading is good, and the nodes represent its formula
 abbrev passed : tie.After-known-told → tie.Else3
@@ -66,13 +68,18 @@ represented c =
 abbrev read-at : tie.After-build-nodes → tie.After-known-told
 read-at c = c .before .before .before .before
 
-built : (c : tie.After-build-nodes) → BuiltAutomaton (represented (read-at c) .formula) (letterCount (begin (read-at c) .args .i) (begin (read-at c) .args .o)) (c .build-nodes .result)
-    (now (begin (read-at c) .args .transitions)) (now (begin (read-at c) .args .accepting)) (c .build-nodes .last .1 .1 .1 .0) (c .build-nodes .last .1 .1 .1 .1 .0)
+built : (c : tie.After-build-nodes)
+    → BuiltAutomaton (represented (read-at c) .formula) (letterCount (begin (read-at c) .args .i) (begin (read-at c) .args .o)) (c .build-nodes .result)
+    (now (begin (read-at c) .args .transitions)) (now (begin (read-at c) .args .accepting)) (c .build-nodes .last .1 .1 .1 .0)
+    (c .build-nodes .last .1 .1 .1 .1 .0)
 built c =
     let k = read-at c in
     let z = begin k .args in
     let v = represented k in
-    subst (λ (L : ℕ). BuiltAutomaton (v .formula) L (c .build-nodes .result) (now (z .transitions)) (now (z .accepting)) (c .build-nodes .last .1 .1 .1 .0) (c .build-nodes .last .1 .1 .1 .1 .0))
+    subst
+    (λ (L : ℕ).
+    BuiltAutomaton (v .formula) L (c .build-nodes .result) (now (z .transitions)) (now (z .accepting))
+    (c .build-nodes .last .1 .1 .1 .0) (c .build-nodes .last .1 .1 .1 .1 .0))
     (letters-of (powered (passed k)) .is) (c .build-nodes .ensures .0 (v .formula) (v .represents))
 
 bad-alphabet-requires : tie.Need-bad-alphabet-requires
@@ -89,7 +96,8 @@ too-long-requires c κs = search needs
 returns-2 : tie.Need-returns-2
 returns-2 c =
     let z = c .before .before .before .before .before .before .before .args in
-    by-length (z .i) (z .o) (now (z .text)) (now (z .transitions)) (now (z .accepting)) (sym (c .before .before .before .bad-alphabet .ensures) ∙ c .before .before .if1 .left) (sym (c .before .too-long .ensures) ∙ c .if2 .taken)
+    by-length (z .i) (z .o) (now (z .text)) (now (z .transitions)) (now (z .accepting))
+    (sym (c .before .before .before .bad-alphabet .ensures) ∙ c .before .before .if1 .left) (sym (c .before .too-long .ensures) ∙ c .if2 .taken)
 
 add-power : tie.Need-add-power
 add-power c = let z = begin₂ c .args in omega (arith, inputs-fit (z .i) (z .o) (fits c), outputs-fit (z .i) (z .o) (fits c))
@@ -124,8 +132,8 @@ read-requires c κs = search needs
 enum-known-reading : tie.Need-enum-known-reading
 enum-known-reading c = search needs
 
-rule-refusal-requires : tie.Need-rule-refusal-requires
-rule-refusal-requires c κs = search needs
+text-refusal-requires : tie.Need-text-refusal-requires
+text-refusal-requires c κs = search needs
 
 same-length-3 : tie.Need-same-length-3
 same-length-3 c = search needs
@@ -139,7 +147,8 @@ returns-4 c =
     let e = powered g .before in
     let z = begin₂ e .args in
     let r = c .before .before .read in
-    by-reading (z .i) (z .o) (now (z .text)) (now (z .transitions)) (now (z .accepting)) (fits e) (short e) (buffers (g .before) false (g .if3 .left)) (r .result) (r .ensures .0) (not-good (r .result) (c .before .match .keys2)) (c .rule-refusal .result) (c .rule-refusal .ensures)
+    by-reading (z .i) (z .o) (now (z .text)) (now (z .transitions)) (now (z .accepting)) (fits e) (short e) (buffers (g .before) false (g .if3 .left))
+    (r .result) (r .ensures .0) (not-good (r .result) (c .before .match .keys2)) (c .text-refusal .result) (c .text-refusal .ensures)
 
 build-nodes-requires : tie.Need-build-nodes-requires
 build-nodes-requires c κs =
@@ -165,7 +174,8 @@ returns-5 c =
     let e = powered g .before in
     let z = begin k .args in
     let v = represented k in
-    by-count (z .i) (z .o) (now (z .text)) (now (z .transitions)) (now (z .accepting)) (fits e) (short e) (buffers (g .before) false (g .if3 .left)) (count k) (v .reading) (v .formula) (v .good) _ _
+    by-count (z .i) (z .o) (now (z .text)) (now (z .transitions)) (now (z .accepting)) (fits e) (short e) (buffers (g .before) false (g .if3 .left))
+    (count k) (v .reading) (v .formula) (v .good) _ _
     (built b .beyond (let q : b .build-nodes .result ≡ suc stateLimit = omega (arith, c .if4 .taken, b .build-nodes .ensures .1) in q))
 
 same-length-7 : tie.Need-same-length-7
@@ -182,7 +192,8 @@ returns-6 c =
     let e = powered g .before in
     let z = begin k .args in
     let v = represented k in
-    by-states (z .i) (z .o) (now (z .text)) (now (z .transitions)) (now (z .accepting)) (fits e) (short e) (buffers (g .before) false (g .if3 .left)) (count k) (v .reading) (v .formula) (v .good) _ _ (b .build-nodes .result) (c .if4 .left) (built b .within (c .if4 .left))
+    by-states (z .i) (z .o) (now (z .text)) (now (z .transitions)) (now (z .accepting)) (fits e) (short e) (buffers (g .before) false (g .if3 .left))
+    (count k) (v .reading) (v .formula) (v .good) _ _ (b .build-nodes .result) (c .if4 .left) (built b .within (c .if4 .left))
 
 pub construct-spec : {M : Type 1} → statement M
 construct-spec =
@@ -202,7 +213,7 @@ construct-spec =
     cast-read-2
     read-requires
     enum-known-reading
-    rule-refusal-requires
+    text-refusal-requires
     same-length-3
     same-length-4
     returns-4

@@ -3,7 +3,8 @@ use Prim.Native.Nat.{ℕ, _%_, _<_}
 use native.Mathlib.Omega.{arith}
 use lib.Pow.{pow-pos}
 use mathlib.Core.Path.{_≡_, sym, ap, ap₂, _∙_}
-use Rattle.automaton.specs.Bits.{bit, ofBits}
+use Rattle.automaton.specs.Limits.{vectorLimit}
+use Rattle.automaton.specs.Bits.{wordBits, bit, ofBits}
 use Rattle.automaton.proofs.BitLaws.{ofBits-mod, bit-shifted}
 use borrow.Author.Needs.{needs}
 use Rattle.automaton.proofs.coordinates.start_word.Statement.{statement}
@@ -16,17 +17,20 @@ shl-result : tie.Need-shl-result
 shl-result c = search needs
 
 rem-result : tie.Need-rem-result
-rem-result c = rw (bit-shifted (c .before .before .args .vectors) (c .if1 .taken)) (pow-pos (c .before .before .args .vectors))
+rem-result c =
+    let n = c .before .before .args .vectors in
+    let h : n < wordBits = omega (arith, c .if1 .taken) in
+    rw (bit-shifted n h) (pow-pos n)
 
 returns : tie.Need-returns
 returns c =
     let n = c .before .before .args .vectors in
-    let h : n < 64 = c .if1 .taken in
-    ap₂ (λ (x y : ℕ). x % y) (c .before .coordinate .ensures) (bit-shifted n h) ∙ ofBits-mod (λ v. bit v 0) 64 n (omega arith)
+    let h : n < wordBits = omega (arith, c .if1 .taken) in
+    ap₂ (λ (x y : ℕ). x % y) (c .before .coordinate .ensures) (bit-shifted n h) ∙ ofBits-mod (λ v. bit v 0) vectorLimit n (omega arith)
 
 returns-2 : tie.Need-returns-2
 returns-2 c =
-    let e : 64 ≡ c .before .before .args .vectors = omega arith in
+    let e : vectorLimit ≡ c .before .before .args .vectors = omega arith in
     c .before .coordinate .ensures ∙ ap (ofBits (λ v. bit v 0)) e
 
 pub start-word-spec : {M : Type 1} → statement M

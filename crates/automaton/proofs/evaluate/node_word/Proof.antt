@@ -1,6 +1,6 @@
 -- `automaton::evaluate::node_word` meets its contract: each arm is the case of its kind. Assumes nothing.
 use borrow.Author.Tests.{ne-eqb}
-use Rattle.automaton.specs.inner.Nodes.{nodeWord}
+use Rattle.automaton.specs.inner.Evaluation.{nodeWord}
 use borrow.Author.Needs.{needs}
 use Rattle.automaton.proofs.evaluate.node_word.Statement.{statement}
 use Rattle.automaton.proofs.evaluate.node_word.Tie as tie
@@ -26,4 +26,18 @@ node-word-spec =
     (λ c. rw (c .match .keys12))
     (λ c.
     let r = c .match .rest in
-    simp (nodeWord, ne-eqb _ 0 (r .0 .0 .0 .0 .0 .0 .0 .0 .0 .0 .0 .1), ne-eqb _ 1 (r .0 .0 .0 .0 .0 .0 .0 .0 .0 .0 .1), ne-eqb _ 2 (r .0 .0 .0 .0 .0 .0 .0 .0 .0 .1), ne-eqb _ 3 (r .0 .0 .0 .0 .0 .0 .0 .0 .1), ne-eqb _ 4 (r .0 .0 .0 .0 .0 .0 .0 .1), ne-eqb _ 5 (r .0 .0 .0 .0 .0 .0 .1), ne-eqb _ 6 (r .0 .0 .0 .0 .0 .1), ne-eqb _ 7 (r .0 .0 .0 .0 .1), ne-eqb _ 8 (r .0 .0 .0 .1), ne-eqb _ 9 (r .0 .0 .1), ne-eqb _ 10 (r .0 .1), ne-eqb _ 11 (r .1))))
+    simp (
+      nodeWord,
+      ne-eqb _ 0 (r .0 .0 .0 .0 .0 .0 .0 .0 .0 .0 .0 .1),
+      ne-eqb _ 1 (r .0 .0 .0 .0 .0 .0 .0 .0 .0 .0 .1),
+      ne-eqb _ 2 (r .0 .0 .0 .0 .0 .0 .0 .0 .0 .1),
+      ne-eqb _ 3 (r .0 .0 .0 .0 .0 .0 .0 .0 .1),
+      ne-eqb _ 4 (r .0 .0 .0 .0 .0 .0 .0 .1),
+      ne-eqb _ 5 (r .0 .0 .0 .0 .0 .0 .1),
+      ne-eqb _ 6 (r .0 .0 .0 .0 .0 .1),
+      ne-eqb _ 7 (r .0 .0 .0 .0 .1),
+      ne-eqb _ 8 (r .0 .0 .0 .1),
+      ne-eqb _ 9 (r .0 .0 .1),
+      ne-eqb _ 10 (r .0 .1),
+      ne-eqb _ 11 (r .1),
+    )))

@@ -6,4 +6,5 @@ use Rattle.automaton.proofs.evaluate.word_at.Statement.{statement}
 use Rattle.automaton.proofs.evaluate.word_at.Tie as tie
 
 pub word-at-spec : {M : Type 1} → statement M
-word-at-spec = tie.close (tie.spec (λ c. search needs) (λ c. search needs) (λ c. search needs) (λ c. sym (List·getD-eq-default (c .before .args .words .now) 0 (c .if1 .left))))
+word-at-spec = tie.close
+    (tie.spec (λ c. search needs) (λ c. search needs) (λ c. search needs) (λ c. sym (List·getD-eq-default (c .before .args .words .now) 0 (c .if1 .left))))

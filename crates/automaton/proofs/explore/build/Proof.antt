@@ -8,7 +8,7 @@ use Rattle.reader.specs.Formula.{Formula, operators}
 use Rattle.automaton.specs.inner.Representation.{Tabulates}
 use Rattle.automaton.specs.inner.Exploration.{Explored}
 use Rattle.automaton.proofs.BitLaws.{one-shifted, half-few}
-use Rattle.automaton.proofs.AutomatonLaws.{built-within, built-beyond, vectors-shifted, start-made}
+use Rattle.automaton.proofs.BuildLaws.{built-within, built-beyond, vectors-shifted, start-made}
 use Rattle.automaton.proofs.explore.build.Statement.{statement}
 use Rattle.automaton.proofs.explore.build.Tie as tie
 
@@ -24,7 +24,8 @@ explored : (x : tie.After-explore) (φ : Formula) → Tabulates φ (begin x .arg
     → Explored φ (begin x .args .letters) (x .explore .result) (x .explore .last .1 .1 .1 .1 .1 .1 .0) (x .explore .last .1 .1 .1 .1 .1 .0)
 explored x φ tab e =
     let s = begin x in
-    x .explore .ensures .0 φ tab (vectors-shifted φ (s .args .width) (s .pre .1) e) (start-made φ _ (s .args .width) (s .pre .1) e (cleared x .before .before .start-word .ensures))
+    x .explore .ensures .0 φ tab (vectors-shifted φ (s .args .width) (s .pre .1) e)
+    (start-made φ _ (s .args .width) (s .pre .1) e (cleared x .before .before .start-word .ensures))
 
 shl-vectors : tie.Need-shl-vectors
 shl-vectors c = search needs
@@ -50,8 +51,14 @@ explore-requires : tie.Need-explore-requires
 explore-requires c κs =
     let t = c .before .before .before in
     let k = t .before .before .before in
-    let s = k .before .before .before .before .before in
-    (rw (one-shifted (s .args .width) (s .pre .1)) (pow-mono (s .pre .1)), s .pre .3, s .pre .4, t .find-twins .ensures, omega (arith, k .clear .ensures .size, s .pre .5), omega arith)
+    let s = k .before .before .before .before .before in (
+      rw (one-shifted (s .args .width) (s .pre .1)) (pow-mono (s .pre .1)),
+      s .pre .3,
+      s .pre .4,
+      t .find-twins .ensures,
+      omega (arith, k .clear .ensures .size, s .pre .5),
+      omega arith,
+    )
 
 clear-requires-2 : tie.Need-clear-requires-2
 clear-requires-2 c κs = search needs
@@ -65,8 +72,10 @@ returns c =
     let s = begin x in
     let a = s .args in (
       λ φ tab e f.
-          built-beyond φ (a .letters) (x .explore .result) (a .transitions .now) (cleared x .clear .last .0) (x .explore .last .1 .1 .1 .1 .1 .0) (c .before .before .clear2 .last .0) (a .accepting .now) (x .explore .last .1 .1 .1 .1 .1 .1 .0)
-          (s .pre .3) (c .before .before .before .before .if1 .taken) (explored x φ tab e) (cleared x .clear .ensures) (x .explore .ensures .1 .1) (x .explore .kept .1 .1 .1 .1 .1 .0) (c .before .before .clear2 .ensures),
+          built-beyond φ (a .letters) (x .explore .result) (a .transitions .now) (cleared x .clear .last .0) (x .explore .last .1 .1 .1 .1 .1 .0)
+          (c .before .before .clear2 .last .0) (a .accepting .now) (x .explore .last .1 .1 .1 .1 .1 .1 .0)
+          (s .pre .3) (c .before .before .before .before .if1 .taken) (explored x φ tab e) (cleared x .clear .ensures) (x .explore .ensures .1 .1)
+          (x .explore .kept .1 .1 .1 .1 .1 .0) (c .before .before .clear2 .ensures),
       x .explore .ensures .1 .0,
     )
 
@@ -94,8 +103,10 @@ returns-2 c =
     let k = c .before .before .before .before .before .before .before .clear3 in
     let few = c .before .before .before .before .before .before .before .before .before .if1 .left in (
       λ φ tab e f.
-          built-within φ (a .letters) (x .explore .result) (a .end) (a .transitions .now) (cleared x .clear .last .0) (x .explore .last .1 .1 .1 .1 .1 .0) (a .accepting .now) (k .last .0) (m .last .1 .1 .1 .0) (x .explore .last .1 .1 .1 .1 .1 .1 .0)
-          (s .pre .3) few (explored x φ tab e) f (cleared x .clear .ensures) (x .explore .ensures .1 .2 few) (x .explore .kept .1 .1 .1 .1 .1 .0) (k .ensures) (m .ensures) (m .kept .1 .1 .1 .0),
+          built-within φ (a .letters) (x .explore .result) (a .end) (a .transitions .now) (cleared x .clear .last .0) (x .explore .last .1 .1 .1 .1 .1 .0)
+          (a .accepting .now) (k .last .0) (m .last .1 .1 .1 .0) (x .explore .last .1 .1 .1 .1 .1 .1 .0)
+          (s .pre .3) few (explored x φ tab e) f (cleared x .clear .ensures) (x .explore .ensures .1 .2 few) (x .explore .kept .1 .1 .1 .1 .1 .0)
+          (k .ensures) (m .ensures) (m .kept .1 .1 .1 .0),
       x .explore .ensures .1 .0,
     )
 

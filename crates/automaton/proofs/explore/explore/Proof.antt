@@ -1,5 +1,5 @@
 -- `automaton::explore::explore` meets its contract. The invariant: after s states the first n of the list are the states discovered, the
--- transitions of the first s are theirs, and the transitions from there on are as they were. The measure is what is left of 128 states.
+-- transitions of the first s are theirs, and the transitions from there on are as they were. The measure is what is left of the limit on states.
 -- Assumes nothing.
 use Prim.Native.Nat.{ℕ, suc, _-_, _+_, _*_, _^_, _≤_}
 use mathlib.Core.Path.{_≡_, refl, sym, ap, _∙_, subst}
@@ -44,11 +44,13 @@ abbrev list-of : tie.After-explore-state Inv-loop μ-loop → List ℕ
 list-of c = c .explore-state .last .1 .1 .1 .1 .1 .1 .1 .0
 
 module _ (c : tie.After-explore-state Inv-loop μ-loop) where
-  explored : (φ : Formula) → Tabulates φ (start-of (head c) .args .letters) (start-of (head c) .args .table .now) → start-of (head c) .args .vectors ≡ 2 ^ suc (operators φ) → start-of (head c) .args .first ≡ start φ
+  explored : (φ : Formula) → Tabulates φ (start-of (head c) .args .letters) (start-of (head c) .args .table .now)
+      → start-of (head c) .args .vectors ≡ 2 ^ suc (operators φ) → start-of (head c) .args .first ≡ start φ
       → StateExplored φ (start-of (head c) .args .letters) (head c .loop .s) (c .explore-state .result) (list-of c) (transitions-of c)
   explored φ tab e f = c .explore-state .ensures .0 φ tab e (head c .loop .inv .5 φ tab e f)
 
-  kept : (u : ℕ) → (head c .loop .s + 1) * start-of (head c) .args .letters ≤ u → getD (transitions-of c) u 0 ≡ getD (start-of (head c) .args .transitions .now) u 0
+  kept : (u : ℕ) → (head c .loop .s + 1) * start-of (head c) .args .letters ≤ u
+      → getD (transitions-of c) u 0 ≡ getD (start-of (head c) .args .transitions .now) u 0
   kept u l =
       let e = add-mul (head c .loop .s) 1 (start-of (head c) .args .letters) in
       c .explore-state .ensures .1 .2 u (omega arith) ∙ head c .loop .inv .4 u (omega arith)
@@ -72,8 +74,15 @@ loop-holds c =
 explore-state-requires : tie.Need-explore-state-requires Inv-loop μ-loop
 explore-state-requires c κs =
     let at = c .before .before .before in
-    let z = start-of at in
-    (z .pre .0, z .pre .2, z .pre .3, c .before .before .loop-test .taken, at .loop .inv .1, omega (arith, z .pre .4, at .loop .inv .3), omega (arith, z .pre .5, list-length at))
+    let z = start-of at in (
+      z .pre .0,
+      z .pre .2,
+      z .pre .3,
+      c .before .before .loop-test .taken,
+      at .loop .inv .1,
+      omega (arith, z .pre .4, at .loop .inv .3),
+      omega (arith, z .pre .5, list-length at),
+    )
 
 same-length : tie.Need-same-length Inv-loop μ-loop
 same-length c = search needs
@@ -88,7 +97,11 @@ returns c =
     let over : x .explore-state .result ≡ suc stateLimit = omega (arith, x .explore-state .ensures .1 .1, c .if1 .taken) in
     let within : head x .loop .s + 1 ≤ stateLimit = omega (arith, x .before .before .before .loop-test .taken, head x .loop .inv .1) in (
       λ φ tab e f. explored x φ tab e f .beyond over,
-      (x .explore-state .ensures .1 .1, λ u l. kept x u (omega (arith, mul-le-mul-right (z .args .letters) within)), λ q u l. absurd (let y : ⊥ = omega arith in y)),
+      (
+        x .explore-state .ensures .1 .1,
+        λ u l. kept x u (omega (arith, mul-le-mul-right (z .args .letters) within)),
+        λ q u l. absurd (let y : ⊥ = omega arith in y),
+      ),
     )
 
 add-s : tie.Need-add-s Inv-loop μ-loop
@@ -106,7 +119,7 @@ loop-again c =
       k .1 .0 ∙ head x .loop .inv .2,
       k .0 ∙ head x .loop .inv .3,
       kept x,
-      λ φ tab e f. next-state φ _ _ _ _ _ (explored x φ tab e f) (c .if1 .left),
+      λ φ tab e f. next-state φ _ _ _ (list-of x) (transitions-of x) (explored x φ tab e f) (c .if1 .left),
     )
 
 same-length-3 : tie.Need-same-length-3 Inv-loop μ-loop
@@ -122,7 +135,7 @@ returns-2 c =
     let all : at .loop .s ≡ at .loop .n = omega arith in
     let steps : at .loop .s * z .args .letters ≡ at .loop .n * z .args .letters = ap (λ (k : ℕ). k * z .args .letters) all in
     let w = mul-le-mul-right (z .args .letters) (at .loop .inv .1) in (
-      λ φ tab e f. turn-done φ _ _ _ _ _ (at .loop .inv .5 φ tab e f) (omega (arith, list-length at, z .pre .5)) (at .loop .inv .1) steps,
+      λ φ tab e f. turn-done φ _ _ _ (at .loop .list) (at .loop .transitions) (at .loop .inv .5 φ tab e f) (at .loop .inv .1) steps,
       (omega arith, λ u l. at .loop .inv .4 u (omega arith), λ q u l. at .loop .inv .4 u (omega arith)),
     )
 

@@ -13,8 +13,8 @@ use Rattle.automaton.specs.State.{after}
 use Rattle.automaton.specs.inner.Representation.{Tabulates}
 use Rattle.automaton.specs.inner.Exploration.{Progress}
 use Rattle.automaton.proofs.ArrayLaws.{kept-more}
-use Rattle.automaton.proofs.ExplorationLaws.{Letter, letter-room, letter-position, letter-new, letter-old, letter-over, letters-done}
-use Rattle.automaton.proofs.TwinLaws.{twin-after, turn-twin}
+use Rattle.automaton.proofs.ExplorationLaws.{Turn, letter-room, letter-new, letter-old, letter-over, letter-twin, letters-done}
+use Rattle.automaton.proofs.TwinLaws.{twin-after}
 use Rattle.automaton.proofs.explore.explore_state.Statement.{statement}
 use Rattle.automaton.proofs.explore.explore_state.Tie as tie
 
@@ -22,7 +22,8 @@ abbrev Inv-loop : tie.InvT-loop
 Inv-loop table twins vectors letters s count transitions₀ list₀ row n₀ a₀ transitions list n a =
     (a ≤ letters) × (count ≤ n) × (n ≤ stateLimit) × (length list ≡ length list₀) × (length transitions ≡ length transitions₀)
     × ((u : ℕ) → s * letters + a ≤ u → getD transitions u 0 ≡ getD transitions₀ u 0)
-    × ((φ : Formula) → Tabulates φ letters table → vectors ≡ 2 ^ suc (operators φ) → Progress φ letters count (s * letters) list₀ transitions₀ → Progress φ letters n (s * letters + a) list transitions)
+    × ((φ : Formula) → Tabulates φ letters table → vectors ≡ 2 ^ suc (operators φ) → Progress φ letters count (s * letters) list₀ transitions₀
+    → Progress φ letters n (s * letters + a) list transitions)
 
 abbrev μ-loop : tie.MeasureT-loop
 μ-loop table twins vectors letters s count transitions₀ list₀ row n₀ a₀ transitions list n a = letters - a
@@ -36,7 +37,8 @@ head c = c .before .before .before .before .before .before .before
 
 -- ---- the numbers of a turn
 module _ (c : tie.In-loop Inv-loop μ-loop) where
-  letter : Letter (start-of (c .before) .args .letters) (c .before .loop .n) (start-of (c .before) .args .s) (c .before .loop .a) (c .before .loop .list) (c .before .loop .transitions)
+  letter : Turn (start-of (c .before) .args .letters) (c .before .loop .n) (start-of (c .before) .args .s) (c .before .loop .a)
+      (c .before .loop .list) (c .before .loop .transitions)
   letter =
       let at = c .before .loop in
       let z = start-of (c .before) in
@@ -52,7 +54,8 @@ module _ (c : tie.In-loop Inv-loop μ-loop) where
   room = letter-room _ _ _ _ _ _ letter
 
 -- the twin of the letter leads every state where the letter does
-twin : (c : tie.After-wide Inv-loop μ-loop) (φ : Formula) → Tabulates φ (start-of (c .before .before .before) .args .letters) (start-of (c .before .before .before) .args .table .now)
+twin : (c : tie.After-wide Inv-loop μ-loop) (φ : Formula)
+    → Tabulates φ (start-of (c .before .before .before) .args .letters) (start-of (c .before .before .before) .args .table .now)
     → start-of (c .before .before .before) .args .vectors ≡ 2 ^ suc (operators φ)
     → (state : ℕ) → after φ state (c .wide .result) ≡ after φ state (c .before .before .before .loop .a)
 twin c φ tab e state =
@@ -61,20 +64,32 @@ twin c φ tab e state =
 
 module _ (c : tie.After-position-of Inv-loop μ-loop) where
   small : c .position-of .result ≤ head c .before .loop .n
-  small = letter-position _ _ _ _ (c .before .before .successor .result) _ (head c .before .loop .list) (head c .before .loop .transitions) (letter (head c)) (c .position-of .ensures)
+  small = c .position-of .ensures .within
 
   -- the state that was looked for is the one that the letter leads to
-  next : (φ : Formula) → Tabulates φ (start-of (head c .before) .args .letters) (start-of (head c .before) .args .table .now) → start-of (head c .before) .args .vectors ≡ 2 ^ suc (operators φ)
+  next : (φ : Formula) → Tabulates φ (start-of (head c .before) .args .letters) (start-of (head c .before) .args .table .now)
+      → start-of (head c .before) .args .vectors ≡ 2 ^ suc (operators φ)
       → c .before .before .successor .result ≡ after φ (getD (head c .before .loop .list) (start-of (head c .before) .args .s) 0) (head c .before .loop .a)
   next φ tab e = c .before .before .successor .ensures φ (start-of (head c .before) .args .letters) tab (head c .loop-test .taken) e
 
 mul-row : tie.Need-mul-row Inv-loop μ-loop
-mul-row c = let z = c .before .before in omega (arith, mul-le-mul-right (z .args .letters) (let l : z .args .s ≤ stateLimit = omega (arith, z .pre .3, z .pre .4) in l), z .pre .1)
+mul-row c =
+    let z = c .before .before in
+    let l : z .args .s ≤ stateLimit = omega (arith, z .pre .3, z .pre .4) in
+    omega (arith, mul-le-mul-right (z .args .letters) l, z .pre .1)
 
 loop-holds : tie.Need-loop-holds Inv-loop μ-loop
 loop-holds c =
-    let z = c .before .before .args in
-    (omega arith, omega arith, c .before .before .pre .4, refl, refl, λ u l. refl, λ φ tab e done. subst (λ (t : ℕ). Progress φ (z .letters) (z .count) t (z .list .now) (z .transitions .now)) (sym (add-zero (z .s * z .letters))) done)
+    let z = c .before .before .args in (
+      omega arith,
+      omega arith,
+      c .before .before .pre .4,
+      refl,
+      refl,
+      λ u l. refl,
+      λ φ tab e done.
+          subst (λ (t : ℕ). Progress φ (z .letters) (z .count) t (z .list .now) (z .transitions .now)) (sym (add-zero (z .s * z .letters))) done,
+    )
 
 element-copy-out-wide : tie.Need-element-copy-out-wide Inv-loop μ-loop
 element-copy-out-wide c = search needs
@@ -112,7 +127,7 @@ loop-again c =
       at .inv .3,
       simp length-set (at .inv .4),
       λ u l. kept-more (at .transitions) (z .args .transitions .now) (z .args .s * z .args .letters + at .a) _ (at .inv .5) u (omega arith),
-      λ φ tab e done. turn-twin φ _ _ _ _ _ _ _ (letter h) (c .before .if1 .taken) (twin w φ tab e) (at .inv .6 φ tab e done),
+      λ φ tab e done. letter-twin φ _ _ _ _ (at .list) (at .transitions) (letter h) (at .inv .6 φ tab e done) _ (c .before .if1 .taken) (twin w φ tab e),
     )
 
 mul-successor : tie.Need-mul-successor Inv-loop μ-loop
@@ -143,7 +158,9 @@ returns c =
     let at = h .before .loop in
     let b = small here in
     let n=limit : at .n ≡ stateLimit = omega (arith, at .inv .2) in (
-      λ φ tab e done. letter-over _ _ _ _ _ _ _ _ (letter h) (here .position-of .ensures) φ (next here φ tab e) (at .inv .6 φ tab e done) (c .if2 .taken ∙ sym n=limit) n=limit,
+      λ φ tab e done.
+          letter-over φ _ _ _ _ (at .list) (at .transitions) (letter h) (at .inv .6 φ tab e done) _ _ (next here φ tab e) (here .position-of .ensures)
+          (c .if2 .taken ∙ sym n=limit) n=limit,
       (omega (arith, at .inv .1, at .inv .2), omega arith, λ u l. at .inv .5 u (omega (arith, h .loop-test .taken))),
     )
 
@@ -186,7 +203,8 @@ loop-again-2 c =
       simp length-set (at .inv .4),
       λ u l. kept-more (at .transitions) (z .args .transitions .now) (z .args .s * z .args .letters + at .a) _ (at .inv .5) u (omega arith),
       λ φ tab e done.
-          letter-new _ _ _ _ _ _ _ _ (letter h) (here .position-of .ensures) φ (next here φ tab e) (at .inv .6 φ tab e done) (c .if3 .taken)
+          letter-new φ _ _ _ _ (at .list) (at .transitions) (letter h) (at .inv .6 φ tab e done) _ _ (next here φ tab e) (here .position-of .ensures)
+          (c .if3 .taken)
           (omega (arith, z .pre .6, at .inv .3)),
     )
 
@@ -205,7 +223,9 @@ loop-again-3 c =
       at .inv .3,
       simp length-set (at .inv .4),
       λ u l. kept-more (at .transitions) (z .args .transitions .now) (z .args .s * z .args .letters + at .a) _ (at .inv .5) u (omega arith),
-      λ φ tab e done. letter-old _ _ _ _ _ _ _ _ (letter h) (here .position-of .ensures) φ (next here φ tab e) (at .inv .6 φ tab e done) (c .if3 .left),
+      λ φ tab e done.
+          letter-old φ _ _ _ _ (at .list) (at .transitions) (letter h) (at .inv .6 φ tab e done) _ _ (next here φ tab e) (here .position-of .ensures)
+          (c .if3 .left),
     )
 
 same-length-3 : tie.Need-same-length-3 Inv-loop μ-loop
@@ -219,7 +239,7 @@ returns-2 c =
     let at = c .before .loop in
     let z = start-of (c .before) in
     let all : at .a ≡ z .args .letters = omega arith in (
-      λ φ tab e done. letters-done φ _ _ _ _ _ _ (at .inv .6 φ tab e done) all (at .inv .2),
+      λ φ tab e done. letters-done φ _ _ _ _ (at .list) (at .transitions) (at .inv .6 φ tab e done) all (at .inv .2),
       (at .inv .1, omega arith, λ u l. at .inv .5 u (omega arith)),
     )
 

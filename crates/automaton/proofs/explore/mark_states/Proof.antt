@@ -49,7 +49,8 @@ loop-again c =
     let at = c .before .before .before in
     let a = at .before .before .before .args in
     let f : ℕ → ℕ = λ u. one (bit (getD (a .list .now) u 0) (a .end)) in
-    let here : c .test-bit .result % 2 ≡ f (at .loop .s) = mod-eq-of-lt (rw (c .test-bit .ensures) (one-lt (bit (getD (a .list .now) (at .loop .s) 0) (a .end)))) ∙ c .test-bit .ensures in (
+    let here : c .test-bit .result % 2 ≡ f (at .loop .s) =
+    mod-eq-of-lt (rw (c .test-bit .ensures) (one-lt (bit (getD (a .list .now) (at .loop .s) 0) (a .end)))) ∙ c .test-bit .ensures in (
       omega arith,
       simp length-set (at .loop .inv .1),
       stored-more f (at .loop .accepting) (at .loop .s) _ (omega arith) here (at .loop .inv .2),
@@ -64,4 +65,18 @@ returns c = (λ u l. c .before .loop .inv .2 u (omega arith), λ u l. c .before 
 
 pub mark-states-spec : {M : Type 1} → statement M
 mark-states-spec =
-    tie.close (tie.spec Inv-loop μ-loop loop-holds mul-test-bit shared-slice-read-test-bit test-bit-requires cast-accepting slice-write-accepting add-s loop-less loop-again same-length returns)
+    tie.close
+    (tie.spec
+    Inv-loop
+    μ-loop
+    loop-holds
+    mul-test-bit
+    shared-slice-read-test-bit
+    test-bit-requires
+    cast-accepting
+    slice-write-accepting
+    add-s
+    loop-less
+    loop-again
+    same-length
+    returns)

@@ -1,17 +1,17 @@
 -- `automaton::explore::position_of` meets its contract. The invariant: none of the states below i is x.
 -- The measure is what is left of n. Assumes nothing.
-use Prim.Native.Nat.{_-_, _≤_}
-use mathlib.Core.Path.{_≡_, sym, _∙_, subst}
+use Prim.Native.Nat.{ℕ, _-_, _≤_, _<_}
+use mathlib.Core.Path.{_≡_}
 use native.Mathlib.Nat.{not-suc-le-zero}
 use native.Mathlib.Omega.{arith}
+use lib.ListN.{getD}
 use borrow.Author.Count.{below-more}
 use borrow.Author.Needs.{needs}
-use Rattle.automaton.proofs.PositionLaws.{Absent, position-in-front, position-not-in-front}
 use Rattle.automaton.proofs.explore.position_of.Statement.{statement}
 use Rattle.automaton.proofs.explore.position_of.Tie as tie
 
 abbrev Inv-loop : tie.InvT-loop
-Inv-loop states n x i₀ i = (i ≤ n) × Absent states x i
+Inv-loop states n x i₀ i = (i ≤ n) × ((k : ℕ) → k < i → getD states k 0 ≡ x → ⊥)
 
 abbrev μ-loop : tie.MeasureT-loop
 μ-loop states n x i₀ i = n - i
@@ -27,9 +27,8 @@ shared-slice-read-if1 c = search needs
 
 returns : tie.Need-returns Inv-loop μ-loop
 returns c =
-    let s = c .before .before .before .before in
-    let at = c .before .before .before .loop in
-    sym (position-in-front (s .args .states .now) (s .args .n) (s .args .x) (s .pre) (at .i) (omega arith) (c .if1 .taken) (at .inv .1))
+    let here = c .if1 .taken in
+    record { within = omega arith; here = λ l. here; nowhere = λ e. absurd (let z : ⊥ = omega arith in z) }
 
 add-i : tie.Need-add-i Inv-loop μ-loop
 add-i c = search needs
@@ -42,9 +41,8 @@ loop-again c = (omega arith, below-more _ _ (c .before .before .before .loop .in
 
 returns-2 : tie.Need-returns-2 Inv-loop μ-loop
 returns-2 c =
-    let s = c .before .before in
-    let i=n : c .before .loop .i ≡ s .args .n = omega arith in
-    i=n ∙ sym (position-not-in-front (s .args .states .now) (s .args .n) (s .args .x) (s .pre) (subst (Absent (s .args .states .now) (s .args .x)) i=n (c .before .loop .inv .1)))
+    let at = c .before .loop in
+    record { within = omega arith; here = λ l. absurd (let z : ⊥ = omega arith in z); nowhere = λ e k l. at .inv .1 k (omega arith) }
 
 pub position-of-spec : {M : Type 1} → statement M
 position-of-spec = tie.close (tie.spec Inv-loop μ-loop loop-holds mul-if1 shared-slice-read-if1 returns add-i loop-less loop-again returns-2)

@@ -38,8 +38,11 @@ test-bit-requires c κs = search needs
 set-pair-requires : tie.Need-set-pair-requires Inv-loop μ-loop
 set-pair-requires c κs =
     let at = c .before .before .before in
-    let a = at .before .args in
-    (omega arith, rw (c .test-bit .ensures) (one-lt (held (a .table .now) (a .letter) (a .state) (at .loop .k))), rw (at .loop .inv .1) (ofBits-lt (λ v. held (a .table .now) (a .letter) (a .state) (v / 2)) (2 * at .loop .k)))
+    let a = at .before .args in (
+      omega arith,
+      rw (c .test-bit .ensures) (one-lt (held (a .table .now) (a .letter) (a .state) (at .loop .k))),
+      rw (at .loop .inv .1) (ofBits-lt (λ v. held (a .table .now) (a .letter) (a .state) (v / 2)) (2 * at .loop .k)),
+    )
 
 add-k : tie.Need-add-k Inv-loop μ-loop
 add-k c = search needs
@@ -50,16 +53,33 @@ loop-less c = search needs
 loop-again : tie.Need-loop-again Inv-loop μ-loop
 loop-again c =
     let at = c .before .before .before .before in
-    let a = at .before .args in
-    (omega arith, c .set-pair .ensures ∙ pair-step (held (a .table .now) (a .letter) (a .state)) (at .loop .k) _ _ (at .loop .inv .1) (c .before .test-bit .ensures))
+    let a = at .before .args in (
+      omega arith,
+      c .set-pair .ensures ∙ pair-step (held (a .table .now) (a .letter) (a .state)) (at .loop .k) _ _ (at .loop .inv .1) (c .before .test-bit .ensures),
+    )
 
 returns : tie.Need-returns Inv-loop μ-loop
 returns c φ L t h e =
     let s = c .before .before in
     let a = s .args in
     let all : 2 * c .before .loop .k ≡ 2 * (a .vectors / 2) = omega arith in
-    c .before .loop .inv .1 ∙ ap (ofBits (λ v. held (a .table .now) (a .letter) (a .state) (v / 2))) all ∙ held-after φ L (a .table .now) (a .letter) (a .vectors) (a .state) t h (s .pre .1) e
+    c .before .loop .inv .1 ∙ ap (ofBits (λ v. held (a .table .now) (a .letter) (a .state) (v / 2))) all
+    ∙ held-after φ L (a .table .now) (a .letter) (a .vectors) (a .state) t h (s .pre .1) e
 
 pub successor-spec : {M : Type 1} → statement M
 successor-spec =
-    tie.close (tie.spec Inv-loop μ-loop mul-row loop-holds add-u element-copy-out-u cast-test-bit test-bit-requires set-pair-requires add-k loop-less loop-again returns)
+    tie.close
+    (tie.spec
+    Inv-loop
+    μ-loop
+    mul-row
+    loop-holds
+    add-u
+    element-copy-out-u
+    cast-test-bit
+    test-bit-requires
+    set-pair-requires
+    add-k
+    loop-less
+    loop-again
+    returns)

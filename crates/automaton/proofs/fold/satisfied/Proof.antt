@@ -7,6 +7,7 @@ use lib.ListN.{getD, length, drop}
 use lib.Dec.{eqb}
 use lib.Seq.{drop-length}
 use Rattle.reader.specs.Formula.{Formula, operators}
+use Rattle.automaton.specs.Limits.{vectorLimit}
 use Rattle.automaton.specs.Bits.{bit}
 use Rattle.automaton.specs.Valuation.{present}
 use Rattle.automaton.specs.inner.Representation.{Represents}
@@ -17,7 +18,8 @@ use Rattle.automaton.proofs.fold.satisfied.Statement.{statement}
 use Rattle.automaton.proofs.fold.satisfied.Tie as tie
 
 abbrev Inv-loop : tie.InvT-loop
-Inv-loop nodes count width letters v₀ i₀ v i = (i ≤ length letters) × (v < 64) × ((φ : Formula) → Represents nodes count φ → width ≡ suc (operators φ) → v ≡ valuation φ (drop i letters))
+Inv-loop nodes count width letters v₀ i₀ v i =
+    (i ≤ length letters) × (v < vectorLimit) × ((φ : Formula) → Represents nodes count φ → width ≡ suc (operators φ) → v ≡ valuation φ (drop i letters))
 
 abbrev μ-loop : tie.MeasureT-loop
 μ-loop nodes count width letters v₀ i₀ v i = i
@@ -44,7 +46,8 @@ satisfied-spec =
     let a = at .before .before .before .args in
     let i = at .loop .i in
     let inv = at .loop .inv in
-    let rest : drop (i - 1) (a .letters .now) ≡ getD (a .letters .now) (i - 1) 0 ∷ drop i (a .letters .now) = drop-last (a .letters .now) i (omega arith) (inv .0) in (
+    let rest : drop (i - 1) (a .letters .now) ≡ getD (a .letters .now) (i - 1) 0 ∷ drop i (a .letters .now) =
+    drop-last (a .letters .now) i (omega arith) (inv .0) in (
       omega arith,
       p .ensures .1,
       λ φ rep w. p .ensures .0 φ rep w ∙ ap₂ (present φ) (c .before .letter-of .ensures) (inv .2 φ rep w) ∙ sym (ap (valuation φ) rest),
@@ -54,4 +57,5 @@ satisfied-spec =
     let at = c .before .before in
     let a = at .before .before .before .args in
     let i=0 : at .loop .i ≡ 0 = omega arith in
-    λ φ rep w. ap (λ (x : ℕ). eqb x 1) (c .test-bit .ensures) ∙ one-test (bit (at .loop .v) 0) ∙ ap (λ (x : ℕ). bit x 0) (at .loop .inv .2 φ rep w ∙ ap (λ (k : ℕ). valuation φ (drop k (a .letters .now))) i=0)))
+    λ φ rep w. ap (λ (x : ℕ). eqb x 1) (c .test-bit .ensures) ∙ one-test (bit (at .loop .v) 0)
+    ∙ ap (λ (x : ℕ). bit x 0) (at .loop .inv .2 φ rep w ∙ ap (λ (k : ℕ). valuation φ (drop k (a .letters .now))) i=0)))

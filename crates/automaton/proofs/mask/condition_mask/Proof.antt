@@ -1,10 +1,12 @@
--- `automaton::mask::condition_mask` meets its contract. The invariant: the bits below x are set, and are the condition's where the nodes are a condition's. The measure is what is left of the inputs. Assumes nothing.
+-- `automaton::mask::condition_mask` meets its contract. The invariant: the bits below x are set, and are the condition's where the nodes are a
+-- condition's. The measure is what is left of the inputs. Assumes nothing.
 use native.Mathlib.Omega.{arith}
 use mathlib.Core.Path.{_≡_, refl, ap, _∙_}
 use Prim.Native.Nat.{_-_, _^_, _≤_, _<_}
 use native.Mathlib.Nat.{mod-eq-of-lt, lt-of-lt-of-le}
 use lib.Pow.{pow-mono}
 use Rattle.reader.specs.Formula.{Formula}
+use Rattle.automaton.specs.Limits.{numberLimit}
 use Rattle.automaton.specs.Bits.{ofBits}
 use Rattle.automaton.specs.Valuation.{value}
 use Rattle.automaton.specs.inner.Representation.{Represents}
@@ -46,5 +48,5 @@ condition-mask-spec =
     let at = c .before in
     let a = at .before .args in
     let x=inputs : at .loop .x ≡ a .inputs = omega arith in
-    let small = lt-of-lt-of-le (at .loop .inv .1) (pow-mono {i = at .loop .x} {j = 16} (omega arith)) in
+    let small = lt-of-lt-of-le (at .loop .inv .1) (pow-mono {i = at .loop .x} {j = numberLimit} (omega arith)) in
     λ κ rep. mod-eq-of-lt small ∙ at .loop .inv .2 κ rep ∙ ap (ofBits (λ y. value κ 1 y 0)) x=inputs))

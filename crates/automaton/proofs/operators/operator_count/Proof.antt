@@ -1,11 +1,12 @@
--- `automaton::operators::operator_count` meets its contract. The invariant: the operators among the nodes below i are counted. The measure is what is left of the nodes. Assumes nothing.
+-- `automaton::operators::operator_count` meets its contract. The invariant: the operators among the nodes below i are counted. The measure is what
+-- is left of the nodes. Assumes nothing.
 use native.Mathlib.Omega.{arith}
 use native.Mathlib.Numerals.{add-one}
 use mathlib.Core.Path.{_≡_, refl, ap, _∙_}
 use Prim.Native.Nat.{_+_, _-_, _≤_}
 use lib.ListN.{getD}
 use Rattle.automaton.specs.Bits.{one}
-use Rattle.automaton.specs.inner.Nodes.{isTemporalNode, operatorsIn}
+use Rattle.automaton.specs.inner.Coordinates.{isTemporalNode, operatorsIn}
 use Rattle.automaton.proofs.OperatorLaws.{all-counted}
 use borrow.Author.Needs.{needs}
 use Rattle.automaton.proofs.operators.operator_count.Statement.{statement}

@@ -1,4 +1,5 @@
--- `automaton::tabulate::fill_row` meets its contract. The invariant: the entries below k of the row are made, and those in front of the row are kept. The measure is what is left of the row. Assumes nothing.
+-- `automaton::tabulate::fill_row` meets its contract. The invariant: the entries below k of the row are made, and those in front of the row are
+-- kept. The measure is what is left of the row. Assumes nothing.
 use native.Mathlib.Omega.{arith}
 use mathlib.Core.Path.{_≡_, refl}
 use Prim.Native.Nat.{ℕ, _+_, _-_, _*_, _≤_, _<_}
@@ -11,7 +12,8 @@ use Rattle.automaton.proofs.tabulate.fill_row.Tie as tie
 
 abbrev Inv-loop : tie.InvT-loop
 Inv-loop words width entries first table₀ k₀ table k =
-    (k ≤ entries) × (length table ≡ length table₀) × ((i : ℕ) → i < k → getD table (first + i) 0 ≡ ofBits (λ j. bit (getD words j 0) (2 * i)) width) × ((i : ℕ) → i < first → getD table i 0 ≡ getD table₀ i 0)
+    (k ≤ entries) × (length table ≡ length table₀) × ((i : ℕ) → i < k → getD table (first + i) 0 ≡ ofBits (λ j. bit (getD words j 0) (2 * i)) width)
+    × ((i : ℕ) → i < first → getD table i 0 ≡ getD table₀ i 0)
 
 abbrev μ-loop : tie.MeasureT-loop
 μ-loop words width entries first table₀ k₀ table k = entries - k

@@ -12,10 +12,10 @@ use Rattle.reader.specs.Formula.{operators}
 use Rattle.reader.proofs.RefusalLaws.{not-good}
 use Rattle.automaton.specs.declared.trial.Trial.{Trial}
 use Rattle.automaton.specs.declared.trial.Trial.the-variants.{Satisfied, Violated}
-use Rattle.automaton.specs.Alphabet.{badAlphabet, letterCount}
+use Rattle.automaton.specs.Alphabet.{badAlphabet, letterCount, firstOver}
 use Rattle.automaton.specs.Bits.{bit}
 use Rattle.automaton.specs.inner.Fold.{valuation}
-use Rattle.automaton.specs.Trial.{firstOver, Tried}
+use Rattle.automaton.specs.Trial.{Tried}
 use Rattle.automaton.proofs.Meaning.{valuation-satisfies}
 use Rattle.automaton.proofs.AlphabetLaws.{inputs-fit, outputs-fit, letters-fit}
 use Rattle.automaton.proofs.ReadLaws.{Represented, read-represents}
@@ -24,7 +24,8 @@ use Rattle.automaton.proofs.trial.try_rule.Statement.{statement}
 use Rattle.automaton.proofs.trial.try_rule.Tie as tie
 
 -- the two tests were passed
-fits : (c : tie.Else2) → badAlphabet (c .before .before .before .before .before .before .args .i) (c .before .before .before .before .before .before .args .o) ≡ false
+fits : (c : tie.Else2)
+    → badAlphabet (c .before .before .before .before .before .before .args .i) (c .before .before .before .before .before .before .args .o) ≡ false
 fits c = sym (c .before .before .before .bad-alphabet .ensures) ∙ c .before .before .if1 .left
 
 short : (c : tie.Else2) → tooLong (now (c .before .before .before .before .before .before .args .text)) ≡ false
@@ -50,7 +51,9 @@ abbrev start : tie.After-satisfied → tie.After-known-told
 start c = c .before .before .before .before .before .before .before
 
 -- the index found is that of the first letter that is too large
-first-letter : (c : tie.After-first-over) → c .first-over .result ≡ firstOver (letterCount (begin (c .before .before) .args .i) (begin (c .before .before) .args .o)) (now (begin (c .before .before) .args .letters))
+first-letter : (c : tie.After-first-over)
+    → c .first-over .result ≡ firstOver (letterCount (begin (c .before .before) .args .i) (begin (c .before .before) .args .o))
+    (now (begin (c .before .before) .args .letters))
 first-letter c =
     let k = c .before .before in
     let z = begin k .args in
@@ -71,7 +74,8 @@ too-long-requires c κs = search needs
 returns-2 : tie.Need-returns-2
 returns-2 c =
     let z = c .before .before .before .before .before .before .args in
-    by-length (z .i) (z .o) (now (z .text)) (now (z .letters)) (sym (c .before .before .before .bad-alphabet .ensures) ∙ c .before .before .if1 .left) (sym (c .before .too-long .ensures) ∙ c .if2 .taken)
+    by-length (z .i) (z .o) (now (z .text)) (now (z .letters))
+    (sym (c .before .before .before .bad-alphabet .ensures) ∙ c .before .before .if1 .left) (sym (c .before .too-long .ensures) ∙ c .if2 .taken)
 
 cast-read : tie.Need-cast-read
 cast-read c = let z = c .before .before .before .before .before .before .args in omega (arith, inputs-fit (z .i) (z .o) (fits c))
@@ -85,15 +89,16 @@ read-requires c κs = search needs
 enum-known-reading : tie.Need-enum-known-reading
 enum-known-reading c = search needs
 
-rule-refusal-requires : tie.Need-rule-refusal-requires
-rule-refusal-requires c κs = search needs
+text-refusal-requires : tie.Need-text-refusal-requires
+text-refusal-requires c κs = search needs
 
 returns-3 : tie.Need-returns-3
 returns-3 c =
     let e = c .before .before .before .before in
     let z = e .before .before .before .before .before .before .args in
     let r = c .before .before .read in
-    by-reading (z .i) (z .o) (now (z .text)) (now (z .letters)) (fits e) (short e) (r .result) (r .ensures .0) (not-good (r .result) (c .before .match .keys2)) (c .rule-refusal .result) (c .rule-refusal .ensures)
+    by-reading (z .i) (z .o) (now (z .text)) (now (z .letters)) (fits e) (short e) (r .result) (r .ensures .0)
+    (not-good (r .result) (c .before .match .keys2)) (c .text-refusal .result) (c .text-refusal .ensures)
 
 add-power : tie.Need-add-power
 add-power c =
@@ -112,10 +117,12 @@ returns-4 c =
     let k = c .before .before .before in
     let z = begin k .args in
     let e = k .before .before .before .before .before in
-    by-letter (z .i) (z .o) (now (z .text)) (now (z .letters)) (fits e) (short e) (count k) (represented k .reading) (c .before .first-over .result) (first-letter (c .before)) (c .if3 .taken)
+    by-letter (z .i) (z .o) (now (z .text)) (now (z .letters)) (fits e) (short e) (count k)
+    (represented k .reading) (c .before .first-over .result) (first-letter (c .before)) (c .if3 .taken)
 
 operator-count-requires : tie.Need-operator-count-requires
-operator-count-requires c κs = let k = c .before .before .before .before in omega (arith, represented k .represents .few-nodes, represented k .represents .count)
+operator-count-requires c κs =
+    let k = c .before .before .before .before in omega (arith, represented k .represents .few-nodes, represented k .represents .count)
 
 add-width : tie.Need-add-width
 add-width c = search needs
@@ -123,8 +130,10 @@ add-width c = search needs
 satisfied-requires : tie.Need-satisfied-requires
 satisfied-requires c κs =
     let k = c .before .before .before .before .before .before in
-    let v = represented k in
-    (omega (arith, v .represents .few-nodes, v .represents .count), omega (arith, c .before .operator-count .ensures .0 (v .formula) (v .represents), v .represents .few-operators))
+    let v = represented k in (
+      omega (arith, v .represents .few-nodes, v .represents .count),
+      omega (arith, c .before .operator-count .ensures .0 (v .formula) (v .represents), v .represents .few-operators),
+    )
 
 -- the served answer
 judged : (c : tie.After-satisfied) (b : Bool) → c .satisfied .result ≡ b → (out : Trial) → out ≡ cond b Satisfied Violated
@@ -135,10 +144,12 @@ judged c b e out u =
     let p = k .before .before .before .before .before in
     let v = represented k in
     let f = c .before .before .before .before .before in
-    let w : c .before .before .operator-count .result + 1 ≡ suc (operators (v .formula)) = omega (arith, c .before .before .operator-count .ensures .0 (v .formula) (v .represents)) in
+    let w : c .before .before .operator-count .result + 1 ≡ suc (operators (v .formula)) =
+    omega (arith, c .before .before .operator-count .ensures .0 (v .formula) (v .represents)) in
     let r : b ≡ bit (valuation (v .formula) (now (z .letters))) 0 = sym e ∙ c .satisfied .ensures (v .formula) (v .represents) w in
     let m = valuation-satisfies (v .formula) (now (z .letters)) in
-    by-list (z .i) (z .o) (now (z .text)) (now (z .letters)) (fits p) (short p) (count k) (represented k .reading) (f .first-over .result) (first-letter f) (c .before .before .before .before .if3 .left) (v .formula) (v .good) b
+    by-list (z .i) (z .o) (now (z .text)) (now (z .letters)) (fits p) (short p) (count k) (represented k .reading)
+    (f .first-over .result) (first-letter f) (c .before .before .before .before .if3 .left) (v .formula) (v .good) b
     (λ t. m .0 (sym r ∙ t), λ t. r ∙ m .1 t) out u
 
 returns-5 : tie.Need-returns-5
@@ -159,7 +170,7 @@ try-rule-spec =
     cast-read-2
     read-requires
     enum-known-reading
-    rule-refusal-requires
+    text-refusal-requires
     returns-3
     add-power
     power-requires

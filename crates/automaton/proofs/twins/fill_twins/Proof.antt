@@ -58,7 +58,8 @@ loop-again c =
       omega arith,
       simp length-set (inv .1),
       simp length-set (inv .2),
-      twins-more (z .args .entries) (at .loop .a) (c .twin-of .result) (z .args .table .now) (at .loop .twins) (inv .3) (omega arith) (c .twin-of .ensures .0) (c .twin-of .ensures .1),
+      twins-more (z .args .entries) (at .loop .a) (c .twin-of .result) (z .args .table .now)
+          (at .loop .twins) (inv .3) (omega arith) (c .twin-of .ensures .0) (c .twin-of .ensures .1),
     )
 
 same-length : tie.Need-same-length Inv-loop μ-loop

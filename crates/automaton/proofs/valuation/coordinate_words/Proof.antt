@@ -1,20 +1,23 @@
--- `automaton::valuation::coordinate_words` meets its contract. The invariant: the coordinates below j have their words. The measure is what is left of the six. Assumes nothing.
+-- `automaton::valuation::coordinate_words` meets its contract. The invariant: the coordinates below j have their words. The measure is what is left
+-- of the coordinates. Assumes nothing.
 use native.Mathlib.Omega.{arith}
 use mathlib.Core.Path.{_≡_, refl, ap, _∙_}
 use Prim.Native.Nat.{ℕ, _-_, _≤_, _<_}
 use lib.ListN.{getD, length, length-set}
 use native.Mathlib.Nat.{not-suc-le-zero}
-use Rattle.automaton.specs.inner.Nodes.{owner}
+use Rattle.automaton.specs.Limits.{coordinateLimit}
+use Rattle.automaton.specs.inner.Coordinates.{owner}
 use Rattle.automaton.proofs.ArrayLaws.{stored-more}
 use borrow.Author.Needs.{needs}
 use Rattle.automaton.proofs.valuation.coordinate_words.Statement.{statement}
 use Rattle.automaton.proofs.valuation.coordinate_words.Tie as tie
 
 abbrev Inv-loop : tie.InvT-loop
-Inv-loop nodes places count words r₀ j₀ r j = (j ≤ 6) × (length r ≡ 6) × ((k : ℕ) → k < j → getD r k 0 ≡ getD words (owner nodes places count k) 0)
+Inv-loop nodes places count words r₀ j₀ r j =
+    (j ≤ coordinateLimit) × (length r ≡ coordinateLimit) × ((k : ℕ) → k < j → getD r k 0 ≡ getD words (owner nodes places count k) 0)
 
 abbrev μ-loop : tie.MeasureT-loop
-μ-loop nodes places count words r₀ j₀ r j = 6 - j
+μ-loop nodes places count words r₀ j₀ r j = coordinateLimit - j
 
 pub coordinate-words-spec : {M : Type 1} → statement M
 coordinate-words-spec =

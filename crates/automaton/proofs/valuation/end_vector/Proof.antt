@@ -1,7 +1,7 @@
 -- `automaton::valuation::end_vector` meets its contract. Assumes nothing.
 use mathlib.Core.Path.{_∙_, ap}
 use Rattle.automaton.specs.Bits.{ofBits}
-use Rattle.automaton.specs.inner.Nodes.{endBit}
+use Rattle.automaton.specs.inner.Coordinates.{endBit}
 use Rattle.automaton.proofs.CoordinateLaws.{ended-vector, ofBits-small}
 use borrow.Author.Needs.{needs}
 use Rattle.automaton.proofs.valuation.end_vector.Statement.{statement}

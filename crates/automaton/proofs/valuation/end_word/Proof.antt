@@ -4,7 +4,7 @@ use mathlib.Core.Path.{_≡_, refl, ap, _∙_}
 use Prim.Native.Nat.{_-_, _≤_}
 use Rattle.automaton.specs.Bits.{ofBits}
 use Rattle.automaton.proofs.BitLaws.{ofBits-lt, ofBits-step, one-lt}
-use Rattle.automaton.specs.inner.Nodes.{endBit}
+use Rattle.automaton.specs.inner.Coordinates.{endBit}
 use borrow.Author.Needs.{needs}
 use Rattle.automaton.proofs.valuation.end_word.Statement.{statement}
 use Rattle.automaton.proofs.valuation.end_word.Tie as tie

@@ -10,4 +10,5 @@ letter-words-spec =
     (tie.spec (λ c κs. search needs) (λ c. search needs) (λ c κs. search needs) (λ c.
     let e = c .before .before .before .before in
     let a = e .before .args in
-    λ φ rep. made-present (a .nodes .now) (a .places .now) (a .count) φ rep (e .before .pre .1) (a .letter) (e .evaluate .result) (e .evaluate .ensures) (c .coordinate-words .result) (c .coordinate-words .ensures)))
+    λ φ rep. made-present (a .nodes .now) (a .places .now) (a .count) φ rep (e .before .pre .1) (a .letter)
+    (e .evaluate .result) (e .evaluate .ensures) (c .coordinate-words .result) (c .coordinate-words .ensures)))

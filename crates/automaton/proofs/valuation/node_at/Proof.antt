@@ -6,4 +6,5 @@ use Rattle.automaton.proofs.valuation.node_at.Statement.{statement}
 use Rattle.automaton.proofs.valuation.node_at.Tie as tie
 
 pub node-at-spec : {M : Type 1} → statement M
-node-at-spec = tie.close (tie.spec (λ c. search needs) (λ c. search needs) (λ c. search needs) (λ c. sym (List·getD-eq-default (c .before .args .nodes .now) 0 (c .if1 .left))))
+node-at-spec = tie.close
+    (tie.spec (λ c. search needs) (λ c. search needs) (λ c. search needs) (λ c. sym (List·getD-eq-default (c .before .args .nodes .now) 0 (c .if1 .left))))

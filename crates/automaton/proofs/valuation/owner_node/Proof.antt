@@ -2,7 +2,8 @@
 use mathlib.Core.Path.{_≡_, sym, ap, ap₂, _∙_}
 use Prim.Native.Nat.{ℕ}
 use lib.ListN.{getD}
-use Rattle.automaton.specs.inner.Nodes.{nodeKind, ownerOf, owner}
+use Rattle.automaton.specs.inner.Nodes.{nodeKind}
+use Rattle.automaton.specs.inner.Coordinates.{ownerOf, owner}
 use Rattle.automaton.proofs.CoordinateLaws.{owner-suc}
 use borrow.Author.Needs.{needs}
 use Rattle.automaton.proofs.valuation.owner_node.Statement.{statement}

@@ -10,5 +10,8 @@ present-vector-spec =
     tie.close (tie.spec (λ c κs. search needs) (λ c κs. search needs) (λ c κs. search needs) (λ c.
     let l = c .before .before .letter-words in
     let start = c .before .before .before .before .before in
-    let a = start .args in
-    (λ φ rep w. c .vector-from .ensures .0 ∙ present-from φ (a .letter) (l .result) (a .width) w (l .ensures φ rep) (a .v) (start .pre .2), c .vector-from .ensures .1)))
+    let a = start .args in (
+      λ φ rep w. c .vector-from .ensures .0
+          ∙ present-from φ (a .letter) (l .result) (a .width) w (l .ensures φ rep) (a .v) (start .pre .2),
+      c .vector-from .ensures .1,
+    )))

@@ -22,7 +22,9 @@ root-value-spec =
     (λ c.
     let a = c .before .before .before .before .before .args in
     let e = c .before .before .before .before .evaluate in
-    let w : c .before .word-at .result ≡ getD (e .result) (a .count - 1) 0 = c .before .word-at .ensures ∙ ap (λ (k : ℕ). getD (e .result) k 0) (c .before .before .less-one .ensures) in (
-      λ φ rep. c .test-bit .ensures ∙ ap (λ (x : ℕ). one (bit x 0)) w ∙ ap one (root-bit (a .nodes .now) (a .count) φ rep (a .letter) (e .result) (e .ensures) 0 (omega arith)),
+    let w : c .before .word-at .result ≡ getD (e .result) (a .count - 1) 0 =
+    c .before .word-at .ensures ∙ ap (λ (k : ℕ). getD (e .result) k 0) (c .before .before .less-one .ensures) in (
+      λ φ rep. c .test-bit .ensures ∙ ap (λ (x : ℕ). one (bit x 0)) w
+          ∙ ap one (root-bit (a .nodes .now) (a .count) φ rep (a .letter) (e .result) (e .ensures) 0 (omega arith)),
       rw (c .test-bit .ensures) (one-lt (bit (c .before .word-at .result) 0)),
     )))

@@ -35,8 +35,12 @@ vector-from-spec =
     (λ c. search needs)
     (λ c. search needs)
     (λ c.
-    let at = c .before .before .before .before in
-    (omega arith, c .set-bit .ensures ∙ ofBits-step (λ i. bit (getD (at .before .args .words .now) i 0) (at .before .args .v)) (at .loop .j) _ _ (at .loop .inv .1) (c .before .test-bit .ensures)))
+    let at = c .before .before .before .before in (
+      omega arith,
+      c .set-bit .ensures
+          ∙ ofBits-step (λ i. bit (getD (at .before .args .words .now) i 0) (at .before .args .v))
+          (at .loop .j) _ _ (at .loop .inv .1) (c .before .test-bit .ensures),
+    ))
     (λ c.
     let a = c .before .before .args in
     let f : ℕ → Bool = λ j. bit (getD (a .words .now) j 0) (a .v) in

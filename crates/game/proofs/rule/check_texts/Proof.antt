@@ -38,8 +38,8 @@ check-requires c κs = search needs
 enum-told : tie.Need-enum-told
 enum-told c = search needs
 
-rule-refusal-requires : tie.Need-rule-refusal-requires
-rule-refusal-requires c κs = search needs
+text-refusal-requires : tie.Need-text-refusal-requires
+text-refusal-requires c κs = search needs
 
 returns : tie.Need-returns
 returns c old short =
@@ -47,7 +47,7 @@ returns c old short =
     let a = z .args in
     let r = c .before .before .check in
     by-rule (a .i) (a .o) (now (a .rule)) (now (a .condition)) old 0 (z .pre .0) (z .pre .1) (z .pre .2) short (r .result) (r .ensures)
-    (not-good (r .result) (c .before .match .keys2)) (c .rule-refusal .result) (c .rule-refusal .ensures)
+    (not-good (r .result) (c .before .match .keys2)) (c .text-refusal .result) (c .text-refusal .ensures)
 
 read-condition-requires : tie.Need-read-condition-requires
 read-condition-requires c κs = search needs
@@ -85,7 +85,7 @@ check-texts-spec =
     cast-check-2
     check-requires
     enum-told
-    rule-refusal-requires
+    text-refusal-requires
     returns
     read-condition-requires
     enum-known-mask

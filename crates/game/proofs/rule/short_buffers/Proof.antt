@@ -6,7 +6,7 @@ use Prim.Native.Nat.{_^_, _≤_}
 use native.Mathlib.Omega.{arith}
 use denote.Ref.{now}
 use Rattle.game.proofs.CheckLaws.{small-power}
-use Rattle.game.specs.inner.Limits.{numberLimit}
+use Rattle.automaton.specs.Limits.{numberLimit}
 use Rattle.automaton.proofs.AlphabetLaws.{inputs-fit, outputs-fit, power-is, LettersFit, letters-fit}
 use Rattle.game.specs.Rule.{Buffers, buffers}
 use Rattle.game.proofs.RuleCheckLaws.{transitions-short, accepting-short, system-short, environment-short}

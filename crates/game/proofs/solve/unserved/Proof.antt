@@ -9,8 +9,7 @@ use native.Mathlib.Omega.{arith}
 use borrow.Author.Needs.{needs}
 use borrow.Author.Count.{below-none, below-more}
 use denote.Ref.{now}
-use Rattle.game.specs.inner.Limits.{numberLimit}
-use Rattle.automaton.specs.Limits.{stateLimit}
+use Rattle.automaton.specs.Limits.{numberLimit, stateLimit}
 use Rattle.game.specs.inner.Game.{arenaOf}
 use Rattle.game.specs.inner.Solver.{rankedBelow, serving}
 use Rattle.game.specs.declared.arena.Game.{Game}

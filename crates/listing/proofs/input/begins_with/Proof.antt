@@ -1,4 +1,5 @@
--- `listing::input::begins_with` meets its contract. The invariant: the test on what is left of both is the test on the whole. The measure is what is left of the word.
+-- `listing::input::begins_with` meets its contract. The invariant: the test on what is left of both is the test on the whole. The measure is what is
+-- left of the word.
 -- Assumes nothing.
 use Prim.Native.Nat.{_+_, _-_, _≤_}
 use mathlib.Core.Path.{_≡_, sym, _∙_}

@@ -9,4 +9,6 @@ use Rattle.listing.proofs.input.condition_start.Tie as tie
 pub condition-start-spec : {M : Type 1} → statement M
 unfolding conditionStart
 condition-start-spec =
-    tie.close (tie.spec (λ c. search needs) (λ c κs. search needs) (λ c. rw (sym (c .before .begins-with .ensures) ∙ c .if1 .taken) refl) (λ c. rw (sym (c .before .begins-with .ensures) ∙ c .if1 .left) refl))
+    tie.close
+    (tie.spec (λ c. search needs) (λ c κs. search needs) (λ c. rw (sym (c .before .begins-with .ensures) ∙ c .if1 .taken) refl)
+    (λ c. rw (sym (c .before .begins-with .ensures) ∙ c .if1 .left) refl))

@@ -6,4 +6,6 @@ use Rattle.listing.proofs.input.is_digit.Statement.{statement}
 use Rattle.listing.proofs.input.is_digit.Tie as tie
 
 pub is-digit-spec : {M : Type 1} → statement M
-is-digit-spec = tie.close (tie.spec (λ c. rw (lt-leb 48 (c .before .args .b) (c .if1 .taken)) refl) (λ c. rw (le-leb 48 (c .before .args .b) (c .if1 .left)) refl))
+is-digit-spec =
+    tie.close
+    (tie.spec (λ c. rw (lt-leb 48 (c .before .args .b) (c .if1 .taken)) refl) (λ c. rw (le-leb 48 (c .before .args .b) (c .if1 .left)) refl))

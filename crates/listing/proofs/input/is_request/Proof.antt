@@ -30,11 +30,14 @@ is-request-spec =
     (tie.spec
     (λ c. request-over (now (c .before .before .args .input)) (c .if1 .taken))
     (λ c κs. search needs)
-    (λ c. request-first (now (start-of (c .before) .args .input)) (omega arith) (sym (c .before .digit-line .ensures) ∙ not-true→ (c .before .digit-line .result) (c .if2 .taken)))
+    (λ c.
+    request-first (now (start-of (c .before) .args .input)) (omega arith)
+    (sym (c .before .digit-line .ensures) ∙ not-true→ (c .before .digit-line .result) (c .if2 .taken)))
     (λ c κs. digits-are (now (start-of (c .before) .args .input)) (first c) .size)
     (λ c.
     let e = c .before .before in
-    request-second (now (start-of (e .before) .args .input)) (omega arith) (first e) (sym (c .before .mode-line .ensures) ∙ not-true→ (c .before .mode-line .result) (c .if3 .taken)))
+    request-second (now (start-of (e .before) .args .input)) (omega arith) (first e)
+    (sym (c .before .mode-line .ensures) ∙ not-true→ (c .before .mode-line .result) (c .if3 .taken)))
     (λ c κs. let e = c .before .before in digits-are (now (start-of (e .before) .args .input)) (first e) .size)
     (λ c κs.
     let e = c .before .before .before in
@@ -43,4 +46,6 @@ is-request-spec =
     (λ c.
     let e = c .before .before .before .before in
     let s = now (start-of (e .before) .args .input) in
-    c .text-lines .ensures ∙ ap (λ (n : ℕ). hasTexts s n) (c .before .condition-start .ensures) ∙ request-last s (omega arith) (first e) (second (c .before .before))))
+    c .text-lines .ensures
+    ∙ ap (λ (n : ℕ). hasTexts s n) (c .before .condition-start .ensures)
+    ∙ request-last s (omega arith) (first e) (second (c .before .before))))

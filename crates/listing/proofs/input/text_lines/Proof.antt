@@ -11,7 +11,17 @@ use Rattle.listing.proofs.input.text_lines.Tie as tie
 pub text-lines-spec : {M : Type 1} → statement M
 text-lines-spec =
     tie.close
-    (tie.spec (λ c κs. search needs) (λ c. texts-short (now (c .before .before .before .args .input)) (c .before .before .before .args .start) (omega (arith, c .before .line-end .ensures))) (λ c. search needs) (λ c κs. search needs) (λ c. omega (arith, c .line-end2 .ensures, end-within (now (c .before .before .before .before .args .input)) (c .before .before .line-end .result + 1) (omega arith))) (λ c.
+    (tie.spec
+    (λ c κs. search needs)
+    (λ c.
+    let z = c .before .before .before .args in
+    texts-short (now (z .input)) (z .start) (omega (arith, c .before .line-end .ensures)))
+    (λ c. search needs)
+    (λ c κs. search needs)
+    (λ c.
+    let z = c .before .before .before .before .args in
+    omega (arith, c .line-end2 .ensures, end-within (now (z .input)) (c .before .before .line-end .result + 1) (omega arith)))
+    (λ c.
     let z = c .before .before .before .before .args in
     let e = c .before .before .line-end .ensures in
     rw (c .line-end2 .ensures, e) (texts-last (now (z .input)) (z .start) (omega arith))))

@@ -40,7 +40,11 @@ ask-spec =
     (λ c.
     let e = c .before .before .before .before in
     let y = start-of (e .before) in
-    omega (arith, c .before .before .before .line-end2 .ensures, rule-ended (now (y .args .input)) (y .pre) _ _ (e .before .condition-start .ensures) (e .line-end .ensures)))
+    omega (
+      arith,
+      c .before .before .before .line-end2 .ensures,
+      rule-ended (now (y .args .input)) (y .pre) _ _ (e .before .condition-start .ensures) (e .line-end .ensures),
+    ))
     (λ c. search needs)
     (λ c. search needs)
     (λ c. let e = c .before .before .before .before .before in omega (arith, e .line-end .ensures, ends e))
@@ -53,5 +57,9 @@ ask-spec =
     let m = c .before .before .before .before .before .before .before .before .before .before .before .before .before .before .before in
     let e = m .before .before .before .before in
     let z = start-of (e .before) .args in
-    asked-parts (now (z .input)) _ _ _ _ _ (m .mode-of .result) (buffers (now (z .transitions)) (now (z .accepting)) (now (z .system)) (now (z .environment))) _ (c .before .before .before .before .before .before .before .before .solve-rule .result)
-    (e .before .condition-start .ensures) (e .line-end .ensures) (m .before .before .before .line-end2 .ensures) (m .before .before .digit-at .ensures) (m .before .digit-at2 .ensures) (m .mode-of .ensures) (c .before .before .before .before .before .before .before .before .solve-rule .ensures)))
+    asked-parts (now (z .input)) _ _ _ _ _ (m .mode-of .result)
+    (buffers (now (z .transitions)) (now (z .accepting)) (now (z .system)) (now (z .environment))) _
+    (c .before .before .before .before .before .before .before .before .solve-rule .result)
+    (e .before .condition-start .ensures) (e .line-end .ensures) (m .before .before .before .line-end2 .ensures)
+    (m .before .before .digit-at .ensures) (m .before .digit-at2 .ensures) (m .mode-of .ensures)
+    (c .before .before .before .before .before .before .before .before .solve-rule .ensures)))

@@ -33,19 +33,30 @@ list-with-spec =
     (λ c.
     let t = c .before .before .before .before .before in
     let z = start-of t .args in
-    listed-refused (now (z .input)) (now (z .output)) _ _ (sym (t .is-request .ensures) ∙ not-true→ (t .is-request .result) (c .before .before .before .before .if1 .taken)) (c .before .before .put-refusal .ensures))
+    listed-refused (now (z .input)) (now (z .output)) _ _
+    (sym (t .is-request .ensures) ∙ not-true→ (t .is-request .result) (c .before .before .before .before .if1 .taken))
+    (c .before .before .put-refusal .ensures))
     (λ c κs. requested (c .before .before .before .before))
-    (λ c κs. let d = sizes (c .before .before .before .before .before .before .before .before .before .before .before .before .before) in (omega arith, d .low))
-    (λ c κs. let d = sizes (c .before .before .before .before .before .before .before .before .before .before .before .before .before .before .before .before .before .before) in (omega (arith, c .before .before .before .before .digit-at .ensures), solved-states (c .before .before .before .before .before .before .before .before .before .before .before .before .before .ask .ensures)))
+    (λ c κs.
+    let d = sizes (c .before .before .before .before .before .before .before .before .before .before .before .before .before) in (omega arith, d .low))
+    (λ c κs.
+    let d =
+    sizes
+    (c .before .before .before .before .before .before .before .before .before .before .before .before .before .before .before .before .before .before) in (
+      omega (arith, c .before .before .before .before .digit-at .ensures),
+      solved-states (c .before .before .before .before .before .before .before .before .before .before .before .before .before .ask .ensures),
+    ))
     (λ c. search needs)
     (λ c. search needs)
     (λ c. search needs)
     (λ c. search needs)
     (λ c. search needs)
     (λ c.
-    let t = c .before .before .before .before .before .before .before .before .before .before .before .before .before .before .before .before .before .before .before .before .before in
+    let e = c .before .before .before .before .before .before .before .before .before .before .before .before .before .before .before .before in
+    let t = e .before .before .before .before .before in
     let y = start-of (t .before) in
     let z = y .args in
-    let k = c .before .before .before .before .before .before .before .before .before .before .before .before .before .before .before .before .ask in
-    listed-answer (now (z .input)) (requested t) (buffers (now (z .transitions)) (now (z .accepting)) (now (z .system)) (now (z .environment))) _ _ _ _ (k .result) (now (z .output)) _ _ (y .pre) (k .ensures)
+    let k = e .ask in
+    listed-answer (now (z .input)) (requested t) (buffers (now (z .transitions)) (now (z .accepting)) (now (z .system)) (now (z .environment))) _ _ _
+    _ (k .result) (now (z .output)) _ _ (y .pre) (k .ensures)
     (rw (← c .before .before .before .before .before .before .before .digit-at .ensures) (c .before .before .put-listing .ensures))))

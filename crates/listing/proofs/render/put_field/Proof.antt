@@ -6,4 +6,7 @@ use Rattle.listing.proofs.render.put_field.Statement.{statement}
 use Rattle.listing.proofs.render.put_field.Tie as tie
 
 pub put-field-spec : {M : Type 1} → statement M
-put-field-spec = tie.close (tie.spec (λ c κs. search needs) (λ c κs. search needs) (λ c. search needs) (λ c. joined (c .before .before .before .before .before .before .put .ensures) (c .before .before .put-decimal .ensures)))
+put-field-spec =
+    tie.close
+    (tie.spec (λ c κs. search needs) (λ c κs. search needs) (λ c. search needs)
+    (λ c. joined (c .before .before .before .before .before .before .put .ensures) (c .before .before .put-decimal .ensures)))

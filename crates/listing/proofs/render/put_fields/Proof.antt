@@ -1,4 +1,5 @@
--- `listing::render::put_fields` meets its contract. The invariant: to write what is left of the row from here is to write the whole row. The measure is what is left of it.
+-- `listing::render::put_fields` meets its contract. The invariant: to write what is left of the row from here is to write the whole row. The measure is
+-- what is left of it.
 -- Assumes nothing.
 use Prim.Native.Nat.{_+_, _-_, _≤_}
 use mathlib.Core.Path.{_≡_, refl, _∙_}
@@ -14,7 +15,8 @@ use Rattle.listing.proofs.render.put_fields.Statement.{statement}
 use Rattle.listing.proofs.render.put_fields.Tie as tie
 
 abbrev Inv-loop : tie.InvT-loop
-Inv-loop out₀ at table from count end₀ k₀ out end k = (k ≤ count) × (length out ≡ length out₀) × Remains out₀ at (fields table from count) out end (fields table (from + k) (count - k))
+Inv-loop out₀ at table from count end₀ k₀ out end k =
+    (k ≤ count) × (length out ≡ length out₀) × Remains out₀ at (fields table from count) out end (fields table (from + k) (count - k))
 
 abbrev μ-loop : tie.MeasureT-loop
 μ-loop out₀ at table from count end₀ k₀ out end k = count - k
@@ -34,7 +36,11 @@ put-fields-spec =
     (λ c.
     let l = c .before .before .before .before .before .before .loop in
     let z = c .before .before .before .before .before .before .before .before .before .args in
-    let w = c .before .before .put-field .ensures in
-    (omega arith, writes-length w ∙ l .inv .1, fields-more (now (z .out)) (z .at) (now (z .table)) (z .from) (z .count) (l .out) (l .end) (l .k) (omega arith) (c .before .before .before .byte-at .ensures) (l .inv .2) w))
+    let w = c .before .before .put-field .ensures in (
+      omega arith,
+      writes-length w ∙ l .inv .1,
+      fields-more (now (z .out)) (z .at) (now (z .table)) (z .from) (z .count) (l .out) (l .end) (l .k) (omega arith)
+          (c .before .before .before .byte-at .ensures) (l .inv .2) w,
+    ))
     (λ c. c .before .loop .inv .1)
     (λ c. fields-end _ _ _ _ _ _ _ _ (c .loop-test .left) (c .before .loop .inv .2)))

@@ -17,10 +17,14 @@ put-mark-spec =
     (λ c. search needs)
     (λ c.
     let z = c .before .before .before .before .before .before .before .before .before .args in
-    rw (mark-plain (now (z .accepting)) (z .s) (sym (c .before .before .before .before .before .before .byte-at .ensures) ∙ c .before .before .before .before .before .if1 .taken)) (c .before .before .put-word .ensures))
+    rw (mark-plain (now (z .accepting)) (z .s)
+    (sym (c .before .before .before .before .before .before .byte-at .ensures) ∙ c .before .before .before .before .before .if1 .taken))
+    (c .before .before .put-word .ensures))
     (λ c. search needs)
     (λ c κs. search needs)
     (λ c. search needs)
     (λ c.
     let z = c .before .before .before .before .before .before .before .before .before .args in
-    rw (mark-goal (now (z .accepting)) (z .s) (λ e. c .before .before .before .before .before .if1 .left (c .before .before .before .before .before .before .byte-at .ensures ∙ e))) (c .before .before .put-word2 .ensures)))
+    rw (mark-goal (now (z .accepting)) (z .s)
+    (λ e. c .before .before .before .before .before .if1 .left (c .before .before .before .before .before .before .byte-at .ensures ∙ e)))
+    (c .before .before .put-word2 .ensures)))

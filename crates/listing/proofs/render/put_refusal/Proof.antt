@@ -15,4 +15,10 @@ put-refusal-spec =
     (λ c κs. search needs)
     (λ c κs. search needs)
     (λ c. search needs)
-    (λ c. refusal-written (c .before .before .before .before .before .before .before .before .before .before .before .before .before .before .before .before .before .before .args .refused) (c .before .before .before .before .before .before .before .before .before .before .before .before .before .before .before .before .before .before .args .index) (c .before .before .before .before .before .before .before .before .before .before .before .before .before .before .put-word .ensures) (c .before .before .before .before .before .before .before .before .before .before .put-decimal .ensures) (c .before .before .before .before .before .before .put-field .ensures) (c .before .before .put .ensures)))
+    (λ c.
+    let e = c .before .before .before .before .before .before .before .before .before .before .before .before .before .before in
+    let z = e .before .before .before .before .args in
+    refusal-written (z .refused) (z .index)
+    (e .put-word .ensures)
+    (c .before .before .before .before .before .before .before .before .before .before .put-decimal .ensures)
+    (c .before .before .before .before .before .before .put-field .ensures) (c .before .before .put .ensures)))

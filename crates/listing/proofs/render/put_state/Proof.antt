@@ -16,5 +16,9 @@ put-state-spec =
     (λ c κs. search needs)
     (λ c. search needs)
     (λ c.
-    let z = c .before .before .before .before .before .before .before .before .before .before .before .before .before .before .before .before .before .before .before .before .args in
-    line-written (z .inputs) (now (z .accepting)) (now (z .system)) (now (z .environment)) (z .s) (c .before .before .before .before .before .before .before .before .before .before .before .before .before .before .put-decimal .ensures) (c .before .before .before .before .before .before .before .before .before .before .put-mark .ensures) (c .before .before .before .before .before .before .put-winner .ensures) (c .before .before .put .ensures)))
+    let e = c .before .before .before .before .before .before .before .before .before .before .before .before .before .before in
+    let z = e .before .before .before .before .before .before .args in
+    line-written (z .inputs) (now (z .accepting)) (now (z .system)) (now (z .environment)) (z .s)
+    (e .put-decimal .ensures)
+    (c .before .before .before .before .before .before .before .before .before .before .put-mark .ensures)
+    (c .before .before .before .before .before .before .put-winner .ensures) (c .before .before .put .ensures)))

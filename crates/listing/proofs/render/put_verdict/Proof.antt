@@ -16,5 +16,9 @@ put-verdict-spec =
     (λ c κs. search needs)
     (λ c. search needs)
     (λ c.
-    let z = c .before .before .before .before .before .before .before .before .before .before .before .before .before .before .before .before .before .before .before .before .before .args in
-    verdict-written (z .inputs) (now (z .accepting)) (now (z .system)) (now (z .environment)) (now (z .word)) (z .n) (c .before .before .before .before .before .before .before .before .before .before .before .before .before .before .put-word .ensures) (c .before .before .before .before .before .before .before .before .before .before .put-decimal .ensures) (c .before .before .before .before .before .before .put .ensures) (c .before .before .put-states .ensures)))
+    let e = c .before .before .before .before .before .before .before .before .before .before .before .before .before .before in
+    let z = e .before .before .before .before .before .before .before .args in
+    verdict-written (z .inputs) (now (z .accepting)) (now (z .system)) (now (z .environment)) (now (z .word)) (z .n)
+    (e .put-word .ensures)
+    (c .before .before .before .before .before .before .before .before .before .before .put-decimal .ensures)
+    (c .before .before .before .before .before .before .put .ensures) (c .before .before .put-states .ensures)))

@@ -15,15 +15,36 @@ put-winner-spec =
     (tie.spec
     (λ c κs. search needs)
     (λ c κs. search needs)
-    (λ c. omega (arith, row-within (c .before .before .before .before .before .before .before .before .before .before .args .s) (c .before .before .before .before .before .before .before .before .before .before .args .inputs) (c .before .before .before .before .before .before .before .before .before .before .pre .0) (c .before .before .before .before .before .before .before .before .before .before .pre .1)))
-    (λ c κs. omega (arith, row-within (c .before .before .before .before .before .before .before .before .before .before .args .s) (c .before .before .before .before .before .before .before .before .before .before .args .inputs) (c .before .before .before .before .before .before .before .before .before .before .pre .0) (c .before .before .before .before .before .before .before .before .before .before .pre .1)))
+    (λ c.
+    omega (
+      arith,
+      row-within (c .before .before .before .before .before .before .before .before .before .before .args .s)
+          (c .before .before .before .before .before .before .before .before .before .before .args .inputs)
+          (c .before .before .before .before .before .before .before .before .before .before .pre .0)
+          (c .before .before .before .before .before .before .before .before .before .before .pre .1),
+    ))
+    (λ c κs.
+    omega (
+      arith,
+      row-within (c .before .before .before .before .before .before .before .before .before .before .args .s)
+          (c .before .before .before .before .before .before .before .before .before .before .args .inputs)
+          (c .before .before .before .before .before .before .before .before .before .before .pre .0)
+          (c .before .before .before .before .before .before .before .before .before .before .pre .1),
+    ))
     (λ c. search needs)
     (λ c.
     let z = c .before .before .before .before .before .before .before .before .before .before .before .before .before .args in
-    rw (winner-system (z .inputs) (now (z .system)) (now (z .environment)) (z .s) (sym (c .before .before .before .before .before .before .before .before .before .byte-at .ensures) ∙ c .before .before .before .before .before .before .before .before .if1 .taken)) (joined (c .before .before .before .before .before .before .put .ensures) (c .before .before .put-fields .ensures)))
+    rw (winner-system (z .inputs) (now (z .system)) (now (z .environment)) (z .s)
+    (sym (c .before .before .before .before .before .before .before .before .before .byte-at .ensures)
+    ∙ c .before .before .before .before .before .before .before .before .if1 .taken))
+    (joined (c .before .before .before .before .before .before .put .ensures) (c .before .before .put-fields .ensures)))
     (λ c κs. search needs)
     (λ c κs. search needs)
     (λ c. search needs)
     (λ c.
     let z = c .before .before .before .before .before .before .before .before .before .before .before .before .before .args in
-    rw (winner-environment (z .inputs) (now (z .system)) (now (z .environment)) (z .s) (λ e. c .before .before .before .before .before .before .before .before .if1 .left (c .before .before .before .before .before .before .before .before .before .byte-at .ensures ∙ e))) (joined (c .before .before .before .before .before .before .put2 .ensures) (c .before .before .put-fields2 .ensures))))
+    rw (winner-environment (z .inputs) (now (z .system)) (now (z .environment)) (z .s)
+    (λ e.
+    c .before .before .before .before .before .before .before .before .if1 .left
+    (c .before .before .before .before .before .before .before .before .before .byte-at .ensures ∙ e)))
+    (joined (c .before .before .before .before .before .before .put2 .ensures) (c .before .before .put-fields2 .ensures))))

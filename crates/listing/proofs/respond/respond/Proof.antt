@@ -18,4 +18,5 @@ respond-spec =
     (λ c κs. search needs)
     (λ c.
     let z = c .before .before .before .before .before .args in
-    responded (now (z .input)) (z .got) _ (now (z .output)) _ _ (search needs) (search needs) (c .before .before .before .least .ensures) (c .list .ensures)))
+    responded (now (z .input)) (z .got) _ (now (z .output)) _ _ (search needs) (search needs) (c .before .before .before .least .ensures)
+    (c .list .ensures)))

@@ -1,4 +1,5 @@
--- `listing::write::put_decimal` meets its contract: the digits of the tenth, then the last digit. The measure is the number itself, which falls by the division.
+-- `listing::write::put_decimal` meets its contract: the digits of the tenth, then the last digit. The measure is the number itself, which falls by the
+-- division.
 -- Assumes nothing.
 use mathlib.Core.Path.{_∙_}
 use native.Mathlib.Omega.{arith}
@@ -105,7 +106,8 @@ put-decimal-same-length-2 : (t : ℕ) → put-decimal-lts.Need-same-length-2 (
   put-decimal-below t,
   put-decimal.Post,
 ) (put-decimal-at t) put-decimal.Post
-put-decimal-same-length-2 t c = writes-length (c .before .before .put2 .ensures) ∙ writes-length (c .before .before .before .before .before .before .put-decimal .ensures)
+put-decimal-same-length-2 t c =
+    writes-length (c .before .before .put2 .ensures) ∙ writes-length (c .before .before .before .before .before .before .put-decimal .ensures)
 
 put-decimal-returns-2 : (t : ℕ) → put-decimal-lts.Need-returns-2 (
   put-reads.Asked,
@@ -115,7 +117,8 @@ put-decimal-returns-2 : (t : ℕ) → put-decimal-lts.Need-returns-2 (
 ) (put-decimal-at t) put-decimal.Post
 put-decimal-returns-2 t c =
     let n = c .before .before .before .before .before .before .before .before .before .before .args .n in
-    rw (decimal-large n (omega arith)) (joined (c .before .before .before .before .before .before .put-decimal .ensures) (c .before .before .put2 .ensures))
+    rw (decimal-large n (omega arith))
+    (joined (c .before .before .before .before .before .before .put-decimal .ensures) (c .before .before .put2 .ensures))
 
 pub +put-decimal-spec : {M : Type 1} → statement M
 +put-decimal-spec = close μ-put-decimal λ t. put-decimal-lts.spec (

@@ -7,4 +7,8 @@ use Rattle.listing.proofs.write.put.Statement.{statement}
 use Rattle.listing.proofs.write.put.Tie as tie
 
 pub put-spec : {M : Type 1} → statement M
-put-spec = tie.close (tie.spec (λ c. search needs) (λ c. search needs) (λ c. search needs) (λ c. writes-one (now (c .before .args .out)) (c .before .args .at) (c .before .args .b) (c .if1 .taken)) (λ c. writes-none (now (c .before .args .out)) (c .before .args .at) (c .before .args .b) (c .if1 .left)))
+put-spec =
+    tie.close
+    (tie.spec (λ c. search needs) (λ c. search needs) (λ c. search needs)
+    (λ c. writes-one (now (c .before .args .out)) (c .before .args .at) (c .before .args .b) (c .if1 .taken))
+    (λ c. writes-none (now (c .before .args .out)) (c .before .args .at) (c .before .args .b) (c .if1 .left)))

@@ -1,4 +1,5 @@
--- `listing::write::put_word` meets its contract. The invariant: to write what is left of the word from here is to write the whole word. The measure is what is left of it.
+-- `listing::write::put_word` meets its contract. The invariant: to write what is left of the word from here is to write the whole word. The measure is
+-- what is left of it.
 -- Assumes nothing.
 use Prim.Native.Nat.{_-_, _≤_}
 use mathlib.Core.Path.{_≡_, refl, _∙_}

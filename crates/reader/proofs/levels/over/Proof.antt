@@ -16,7 +16,9 @@ over-spec =
     (λ c. search needs)
     (λ c.
     let a = c .before .before .before .before .before .before in
-    past-mark _ _ _ (a .pre .1 .0) (a .pre .0) (c .before .before .before .before .skip .ensures) refl (tick-on _ _ (sym (c .before .before .is-temporal .ensures) ∙ c .before .if1 .taken)))
+    past-mark _ _ _ (a .pre .1 .0) (a .pre .0) (c .before .before .before .before .skip .ensures) refl
+    (tick-on _ _ (sym (c .before .before .is-temporal-mark .ensures) ∙ c .before .if1 .taken)))
     (λ c.
     let a = c .before .before .before .before .before in
-    past-mark _ _ _ (a .pre .1 .0) (a .pre .0) (c .before .before .before .skip .ensures) refl (tick-off _ _ (sym (c .before .is-temporal .ensures) ∙ c .if1 .left))))
+    past-mark _ _ _ (a .pre .1 .0) (a .pre .0) (c .before .before .before .skip .ensures) refl
+    (tick-off _ _ (sym (c .before .is-temporal-mark .ensures) ∙ c .if1 .left))))

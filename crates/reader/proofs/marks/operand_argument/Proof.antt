@@ -1,4 +1,5 @@
--- `reader::marks::operand_argument` meets its contract: an operand that is no constant is an input's or an output's letter, so that no difference wraps. Assumes nothing.
+-- `reader::marks::operand_argument` meets its contract: an operand that is no constant is an input's or an output's letter, so that no difference
+-- wraps. Assumes nothing.
 use borrow.Author.Needs.{needs}
 use borrow.Author.Tests.{eq-eqb, ne-eqb, le-leb, lt-leb}
 use mathlib.Core.Logic.{⊎-elim}
@@ -17,7 +18,9 @@ unfolding operandArgument
 returns-2 c = simp (ne-eqb _ _ (c .before .if1 .left), eq-eqb _ _ (c .if2 .taken))
 
 sub-result : tie.Need-sub-result
-sub-result c = ⊎-elim (λ w. omega arith) (λ w. ⊎-elim (λ w. omega arith) (λ w. omega arith) w) (operand-byte (c .before .before .before .args .b) (c .before .before .before .pre))
+sub-result c =
+    ⊎-elim (λ w. omega arith) (λ w. ⊎-elim (λ w. omega arith) (λ w. omega arith) w)
+    (operand-byte (c .before .before .before .args .b) (c .before .before .before .pre))
 
 cast-result : tie.Need-cast-result
 cast-result c = search needs
@@ -27,7 +30,9 @@ unfolding operandArgument
 returns-3 c = simp (ne-eqb _ _ (c .before .before .if1 .left), ne-eqb _ _ (c .before .if2 .left), le-leb _ _ (c .if3 .taken))
 
 sub-result-2 : tie.Need-sub-result-2
-sub-result-2 c = ⊎-elim (λ w. omega arith) (λ w. ⊎-elim (λ w. omega arith) (λ w. omega arith) w) (operand-byte (c .before .before .before .args .b) (c .before .before .before .pre))
+sub-result-2 c =
+    ⊎-elim (λ w. omega arith) (λ w. ⊎-elim (λ w. omega arith) (λ w. omega arith) w)
+    (operand-byte (c .before .before .before .args .b) (c .before .before .before .pre))
 
 cast-result-2 : tie.Need-cast-result-2
 cast-result-2 c = search needs

@@ -44,7 +44,8 @@ returns c =
     let at = c .before .before .before .before .before .before .before .before in
     let a = at .before .before .before .args in (
       same-reading (a .i) (a .o) (a .temporal) (a .text .now) (c .before .before .before .before .before .before .found .given .1) (at .check .ensures),
-      written (a .i) (a .o) (a .temporal) (a .text .now) _ (c .before .before .before .before .skip .ensures) refl refl _ _ _ _ (c .before .before .read-implies .ensures),
+      written (a .i) (a .o) (a .temporal) (a .text .now) _ (c .before .before .before .before .skip .ensures) refl refl _ _ _ _
+          (c .before .before .read-implies .ensures),
     )
 
 returns-2 : tie.Need-returns-2

@@ -14,7 +14,8 @@ use Rattle.reader.proofs.scan.scan.Statement.{statement}
 use Rattle.reader.proofs.scan.scan.Tie as tie
 
 abbrev Inv-loop : tie.InvT-loop
-Inv-loop text i o temporal at₀ due₀ depth₀ at due depth = (at ≤ length text) × (depth ≤ at) × (scanOf (kindIn i o temporal) (drop at text) at due depth ≡ scanOf (kindIn i o temporal) text 0 true 0)
+Inv-loop text i o temporal at₀ due₀ depth₀ at due depth =
+    (at ≤ length text) × (depth ≤ at) × (scanOf (kindIn i o temporal) (drop at text) at due depth ≡ scanOf (kindIn i o temporal) text 0 true 0)
 
 abbrev μ-loop : tie.MeasureT-loop
 μ-loop text i o temporal at₀ due₀ depth₀ at due depth = length text - at
@@ -33,7 +34,8 @@ scan-spec =
     (λ c.
     let l = c .before .before .before .before .before .loop in
     let a = c .before .before .before .before .before .before .before .args in
-    scan-stops (kindIn (a .i) (a .o) (a .temporal)) (a .text .now) (l .at) (l .due) (l .depth) (omega arith) (sym (c .before .before .advance .ensures) ∙ c .enum-told .given .1)
+    scan-stops (kindIn (a .i) (a .o) (a .temporal)) (a .text .now) (l .at) (l .due) (l .depth) (omega arith)
+    (sym (c .before .before .advance .ensures) ∙ c .enum-told .given .1)
     ∙ l .inv .2)
     (λ c. omega arith)
     (λ c. omega arith)
@@ -42,18 +44,22 @@ scan-spec =
     let a = c .before .before .before .before .before .before .before .before .args in
     let v = c .before .d .given .0 in
     let k = kindIn (a .i) (a .o) (a .temporal) in
-    let e : stepOf k (getD (a .text .now) (l .at) 0) (l .due) (l .depth) ≡ Next (v .0) (v .1 .0) = sym (c .before .before .before .advance .ensures) ∙ c .before .d .given .1 in
+    let e : stepOf k (getD (a .text .now) (l .at) 0) (l .due) (l .depth) ≡ Next (v .0) (v .1 .0) =
+    sym (c .before .before .before .advance .ensures) ∙ c .before .d .given .1 in
     let h : v .1 .0 ≤ l .depth + 1 = step-depth k _ _ _ _ _ e in
     (omega arith, omega arith, scan-goes k (a .text .now) (l .at) (l .due) (l .depth) (v .0) (v .1 .0) (omega arith) e ∙ l .inv .2))
     (λ c.
     let l = c .before .before .loop in
     let a = c .before .before .before .before .args in
-    sym (scan-end (kindIn (a .i) (a .o) (a .temporal)) (a .text .now) (l .at) (l .due) (l .depth) (omega arith) ∙ ap (λ (w : Bool). endOf w (l .depth) (l .at)) (c .if1 .taken)) ∙ l .inv .2)
+    sym (scan-end (kindIn (a .i) (a .o) (a .temporal)) (a .text .now) (l .at) (l .due) (l .depth) (omega arith)
+    ∙ ap (λ (w : Bool). endOf w (l .depth) (l .at)) (c .if1 .taken)) ∙ l .inv .2)
     (λ c.
     let l = c .before .before .before .loop in
     let a = c .before .before .before .before .before .args in
-    sym (scan-end (kindIn (a .i) (a .o) (a .temporal)) (a .text .now) (l .at) (l .due) (l .depth) (omega arith) ∙ rw (c .before .if1 .left, c .if2 .taken)) ∙ l .inv .2)
+    sym (scan-end (kindIn (a .i) (a .o) (a .temporal)) (a .text .now) (l .at) (l .due) (l .depth) (omega arith)
+    ∙ rw (c .before .if1 .left, c .if2 .taken)) ∙ l .inv .2)
     (λ c.
     let l = c .before .before .before .loop in
     let a = c .before .before .before .before .before .args in
-    sym (scan-end (kindIn (a .i) (a .o) (a .temporal)) (a .text .now) (l .at) (l .due) (l .depth) (omega arith) ∙ rw (c .before .if1 .left) (end-open (l .depth) (l .at) (c .if2 .left))) ∙ l .inv .2))
+    sym (scan-end (kindIn (a .i) (a .o) (a .temporal)) (a .text .now) (l .at) (l .due) (l .depth) (omega arith)
+    ∙ rw (c .before .if1 .left) (end-open (l .depth) (l .at) (c .if2 .left))) ∙ l .inv .2))

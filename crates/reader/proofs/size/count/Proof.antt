@@ -1,4 +1,5 @@
--- `reader::size::count` meets its contract. The invariant: what is counted and the count of the bytes that are left make up the count of the text, and no byte counts more than 1.
+-- `reader::size::count` meets its contract. The invariant: what is counted and the count of the bytes that are left make up the count of the text,
+-- and no byte counts more than 1.
 -- The measure is the number of bytes left. Assumes nothing.
 use mathlib.Core.Path.{_≡_}
 use Prim.Native.Nat.{_+_, _-_, _≤_, _<_}

@@ -7,4 +7,6 @@ use Rattle.reader.proofs.size.tick_of.Tie as tie
 
 pub tick-of-spec : {M : Type 1} → statement M
 unfolding tick
-tick-of-spec = tie.close (tie.spec (λ c κs. search needs) (λ c. simp (sym (c .before .is-temporal .ensures) ∙ c .if1 .taken)) (λ c. simp (sym (c .before .is-temporal .ensures) ∙ c .if1 .left)))
+tick-of-spec =
+    tie.close (tie.spec (λ c κs. search needs) (λ c. simp (sym (c .before .is-temporal-mark .ensures) ∙ c .if1 .taken))
+    (λ c. simp (sym (c .before .is-temporal-mark .ensures) ∙ c .if1 .left)))

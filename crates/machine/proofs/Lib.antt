@@ -1,0 +1,7 @@
+pub mod PositionLaws
+pub mod DiscoveryLaws
+pub mod Reachable
+pub mod AutomatonLaws
+pub mod OneAutomaton
+pub mod ExplorationLaws
+pub mod Samples

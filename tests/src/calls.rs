@@ -9,6 +9,7 @@ use crate::tables::{self, Tables};
 use crate::tree::{condition_mask, Tree};
 use crate::wording::Wording;
 use crate::Mode;
+use crate::STATES;
 
 /// A refusal: its number, and a place or index where the specification names one.
 #[derive(Clone, Copy, Debug, PartialEq, Eq)]
@@ -77,10 +78,10 @@ fn read_condition(i: usize, condition: &[u8]) -> Result<Tree, Refusal> {
 
 /// Whether one of the four buffers is too short for a rule.
 fn too_short(i: usize, o: usize, buffers: &Buffers) -> bool {
-    buffers.moves.len() < 128 << (i + o)
-        || buffers.marks.len() < 128
-        || buffers.station.len() < 128 << i
-        || buffers.outside.len() < 128
+    buffers.moves.len() < STATES << (i + o)
+        || buffers.marks.len() < STATES
+        || buffers.station.len() < STATES << i
+        || buffers.outside.len() < STATES
 }
 
 /// Reads rule and condition after all earlier checks: refusals 1 to 8.
@@ -107,8 +108,8 @@ fn write(buffer: &mut [u8], share: usize, front: &[u8], filler: u8) {
 
 /// Writes both tables into their buffers.
 fn write_tables(i: usize, tables: &Tables, station: &mut [u8], outside: &mut [u8]) {
-    write(station, 128 << i, &tables.station, 255);
-    write(outside, 128, &tables.outside, 255);
+    write(station, STATES << i, &tables.station, 255);
+    write(outside, STATES, &tables.outside, 255);
 }
 
 /// The game on a rule's automaton.
@@ -127,16 +128,16 @@ pub fn solve_rule(
     buffers: &mut Buffers,
 ) -> Result<Verdict, Refusal> {
     let (tree, mask) = rule_and_condition(i, o, rule, condition, buffers)?;
-    let Some(automaton) = build(&tree, i, o, 128) else {
-        buffers.moves[..128 << (i + o)].fill(0);
+    let Some(automaton) = build(&tree, i, o, STATES) else {
+        buffers.moves[..STATES << (i + o)].fill(0);
         return Err(Refusal { number: 9, place: None });
     };
     let game = game_of(&automaton, i, o, mask, mode);
     let tables = tables::build(&game);
     let moves: Vec<u8> = game.moves.iter().map(|&t| t as u8).collect();
     let marks: Vec<u8> = game.goals.iter().map(|&goal| goal as u8).collect();
-    write(&mut buffers.moves, 128 << (i + o), &moves, 0);
-    write(&mut buffers.marks, 128, &marks, 0);
+    write(&mut buffers.moves, STATES << (i + o), &moves, 0);
+    write(&mut buffers.marks, STATES, &marks, 0);
     write_tables(i, &tables, &mut buffers.station, &mut buffers.outside);
     Ok(Verdict { can: tables.outside[0] == 255, n: game.n })
 }
@@ -144,10 +145,10 @@ pub fn solve_rule(
 /// The refusals of the call for a given automaton, in its order: 1, 10, 3, 12, 11, 13.
 fn check_given(i: usize, o: usize, given: &Given, station: usize, outside: usize) -> Result<(), Refusal> {
     refuse_if(i > 4 || o > 4, 1)?;
-    refuse_if(given.n == 0 || given.n > 128, 10)?;
+    refuse_if(given.n == 0 || given.n > STATES, 10)?;
     let used = given.n << (i + o);
     let short = given.moves.len() < used || given.marks.len() < given.n;
-    refuse_if(short || station < 128 << i || outside < 128, 3)?;
+    refuse_if(short || station < STATES << i || outside < STATES, 3)?;
     refuse_if(given.start >= given.n, 12)?;
     if let Some(index) = given.moves[..used].iter().position(|&t| t as usize >= given.n) {
         return Err(Refusal { number: 11, place: Some(index) });
@@ -189,7 +190,7 @@ pub struct Lent<'a> {
 /// The follower's refusals before the row is looked at: 1, 10, 3, 12, 13.
 fn check_follow(i: usize, o: usize, lent: Lent, input: usize, state: usize) -> Result<(), Refusal> {
     refuse_if(i > 4 || o > 4, 1)?;
-    refuse_if(lent.n == 0 || lent.n > 128, 10)?;
+    refuse_if(lent.n == 0 || lent.n > STATES, 10)?;
     let short = lent.moves.len() < lent.n << (i + o) || lent.marks.len() < lent.n || lent.station.len() < lent.n << i;
     refuse_if(short, 3)?;
     refuse_if(state >= lent.n, 12)?;

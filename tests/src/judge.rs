@@ -12,6 +12,7 @@
 use crate::game::Game;
 use crate::longest::{most_in_a_row, most_marked, Edge};
 use crate::Mode;
+use crate::STATES;
 
 /// Who a table says wins a state.
 fn claim(game: &Game, station: &[u8], outside: &[u8], s: usize) -> Result<bool, String> {
@@ -99,8 +100,8 @@ pub fn judge(game: &Game, station: &[u8], outside: &[u8]) -> Result<Vec<bool>, S
 /// which must be as they were before the call.
 pub fn judge_buffers(game: &Game, station: (&[u8], &[u8]), outside: (&[u8], &[u8])) -> Result<Vec<bool>, String> {
     let wins = judge(game, station.0, outside.0)?;
-    frame("station", station.0, station.1, game.n * game.inputs(), 128 * game.inputs(), 255)?;
-    frame("outside", outside.0, outside.1, game.n, 128, 255)?;
+    frame("station", station.0, station.1, game.n * game.inputs(), STATES * game.inputs(), 255)?;
+    frame("outside", outside.0, outside.1, game.n, STATES, 255)?;
     Ok(wins)
 }
 

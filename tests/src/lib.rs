@@ -38,6 +38,9 @@ pub mod tree;
 pub mod viable;
 pub mod wording;
 
+/// The states that an automaton may have, for which there must be room in the buffers that are written.
+pub const STATES: usize = 128;
+
 /// The assumption on the outside: the condition again and again, or always from some step on.
 #[derive(Clone, Copy, Debug, PartialEq, Eq)]
 pub enum Mode {

@@ -3,6 +3,7 @@
 
 use crate::calls::{solve_rule, Buffers, Refusal, Verdict};
 use crate::Mode;
+use crate::STATES;
 
 /// The four lines taken apart.
 #[derive(Clone, Debug, PartialEq, Eq)]
@@ -54,7 +55,12 @@ fn refused(refusal: Refusal) -> Vec<u8> {
 /// Buffers just long enough for a rule (none where i or o is out of range).
 pub fn buffers(i: usize, o: usize) -> Buffers {
     let (i, o) = if i > 4 || o > 4 { (0, 0) } else { (i, o) };
-    Buffers { moves: vec![0; 128 << (i + o)], marks: vec![0; 128], station: vec![0; 128 << i], outside: vec![0; 128] }
+    Buffers {
+        moves: vec![0; STATES << (i + o)],
+        marks: vec![0; STATES],
+        station: vec![0; STATES << i],
+        outside: vec![0; STATES],
+    }
 }
 
 /// The line of one state.

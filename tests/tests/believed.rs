@@ -86,6 +86,52 @@ fn the_lists_are_in_the_order_of_reading() {
     assert_eq!(too_early(&wrong), Some(("Play", "Arena".to_string())));
 }
 
+/// The crates by their letters in docs/PROMISES.md.
+const CRATES: [(&str, &str); 5] =
+    [("R", "reader"), ("M", "machine"), ("A", "automaton"), ("P", "plays"), ("G", "game")];
+
+/// The believed files that a source uses, of any crate, as crate and name.
+fn all_uses(own: &str, source: &str) -> BTreeSet<(String, String)> {
+    let mut found = BTreeSet::new();
+    for part in source.split("Rattle·").skip(1) {
+        let Some((name, rest)) = part.split_once('.') else { continue };
+        let (name, rest) = match name.strip_suffix("·specs") {
+            Some(name) => (name, rest.strip_prefix("specs.").unwrap()),
+            None => (name, rest.strip_prefix("specs.").unwrap_or("declared")),
+        };
+        assert!(name == own || !rest.is_empty());
+        let file = rest.split(|c: char| !c.is_alphanumeric()).next().unwrap();
+        if file != "declared" {
+            found.insert((name.to_string(), file.to_string()));
+        }
+    }
+    found
+}
+
+#[test]
+fn the_guide_is_in_the_order_of_reading() {
+    let crates = Path::new(env!("CARGO_MANIFEST_DIR")).join("../crates");
+    let guide = fs::read_to_string(crates.join("../docs/PROMISES.md")).unwrap();
+    let (_, guide) = guide.split_once("| What | Where |").unwrap();
+    let rows = guide.lines().skip(2).map_while(|line| line.strip_prefix("| "));
+    let mut before: BTreeSet<(String, String)> = BTreeSet::new();
+    for files in rows.map(|row| row.split(" | ").nth(1).unwrap().trim_end_matches(" |")) {
+        for part in files.split("; ") {
+            let (letter, names) = part.split_once(' ').unwrap();
+            let own = CRATES.iter().find(|(known, _)| *known == letter).unwrap().1;
+            for name in
+                names.split(", ").map(|name| name.split(" (").next().unwrap()).filter(|name| !name.starts_with('`'))
+            {
+                let source = fs::read_to_string(crates.join(own).join("specs").join(format!("{name}.antt"))).unwrap();
+                let early: Vec<_> = all_uses(own, &source).difference(&before).cloned().collect();
+                assert_eq!(early, [], "{own}: {name}");
+                before.insert((own.to_string(), name.to_string()));
+            }
+        }
+    }
+    assert!(before.len() > 25, "{}", before.len());
+}
+
 #[test]
 fn a_use_of_an_inner_file_is_seen() {
     let own = "-- a head\nuse Rattle.plays.specs.inner.Rank.{judged}\n";

@@ -25,6 +25,26 @@ fn names(text: &str) -> BTreeSet<&str> {
     text.split(ends).filter(|name| !name.is_empty()).collect()
 }
 
+/// The names that a source defines: what stands before the colon of a signature, a field or a constructor, and records and data.
+fn defined(source: &str) -> BTreeSet<&str> {
+    let mut found = BTreeSet::new();
+    for line in source.lines().map(|line| line.split("--").next().unwrap().trim()) {
+        let mut words = line.split(' ').peekable();
+        let mut kind = false;
+        while let Some(word @ ("pub" | "abbrev" | "unfoldable" | "record" | "data")) = words.peek().copied() {
+            kind |= word == "record" || word == "data";
+            words.next();
+        }
+        let words: Vec<&str> = words.collect();
+        match words.iter().position(|word| *word == ":") {
+            _ if kind => found.extend(words.first()),
+            Some(end) if !words[..end].iter().any(|word| word.contains(['(', '{', '='])) => found.extend(&words[..end]),
+            _ => (),
+        }
+    }
+    found
+}
+
 /// The file that a citation such as ` G/Rule`, ` G/inner/Solver` or ` G proofs/Laws` names at the beginning of a text.
 fn file_at(text: &str) -> Option<PathBuf> {
     let mut rest = text.trim_start_matches([' ', '(']).chars();
@@ -61,7 +81,7 @@ fn missing(line: &str) -> Vec<String> {
     let mut wrong = Vec::new();
     for (cited, file) in citations(line) {
         let source = fs::read_to_string(&file).unwrap_or_default();
-        let known = names(&source);
+        let known = defined(&source);
         let variables = ["λ", "v", "j"];
         let absent = |name: &&str| !known.contains(name) && !variables.contains(name) && name.parse::<u64>().is_err();
         if names(cited).iter().any(absent) {
@@ -112,7 +132,9 @@ fn the_edits_are_those_that_are_cited() {
 
 #[test]
 fn a_wrong_citation_is_seen() {
-    assert_eq!(missing("`run`, `walk` M/Automaton").len(), 0);
+    assert_eq!(missing("`move`, `walk` M/Automaton").len(), 0);
+    assert_eq!(missing("`Automaton.meaning` M/Automaton").len(), 0);
+    assert_eq!(missing("`run` M/Automaton").len(), 1);
     assert_eq!(missing("`walked` M/Automaton").len(), 1);
     assert_eq!(missing("`walk`, `walked` M/Automaton").len(), 1);
     assert_eq!(missing("`walk` M/NoSuchFile").len(), 1);

@@ -19,7 +19,7 @@ const LIMITS: &[Row] = &[
     ("255", "reader/src/limits.rt", "TEXT_LIMIT"),
     ("256", "reader/specs/inner/Nodes.antt", "fieldSize"),
     ("256", "reader/src/limits.rt", "FIELD_SIZE"),
-    ("64", "automaton/specs/Bits.antt", "wordBits"),
+    ("64", "automaton/specs/inner/Sizes.antt", "wordBits"),
     ("64", "automaton/src/bits.rt", "WORD_BITS"),
     ("64", "reader/specs/Limits.antt", "nodeLimit"),
     ("64", "reader/src/limits.rt", "NODE_LIMIT"),

@@ -47,6 +47,53 @@ const PROVED: [Row; 11] = [
     ("pUa", Fair, "a", true, 4),
 ];
 
+/// A section of the specification, as one line.
+fn section(name: &str) -> String {
+    let path = concat!(env!("CARGO_MANIFEST_DIR"), "/../docs/SPECIFICATION.md");
+    let text = fs::read_to_string(path).unwrap();
+    let (_, rest) = text.split_once(&format!("\n## {name}\n")).unwrap();
+    rest.split("\n## ").next().unwrap().to_string()
+}
+
+/// The readings of a text such as "`Fa` cannot, 3; fair `a` can, 3. `Xa` cannot, 4.": the rule stands before its first reading, and
+/// where no mode and condition are named they are fair and `1`.
+fn readings_of(text: &str) -> Vec<(String, Mode, String, bool, usize)> {
+    let mut rows: Vec<(String, Mode, String, bool, usize)> = Vec::new();
+    for part in text.trim().trim_end_matches('.').split(['.', ';']).map(str::trim) {
+        let (told, n) = part.rsplit_once(", ").unwrap();
+        let words: Vec<&str> = told.split(' ').collect();
+        let (can, words) = words.split_last().unwrap();
+        let quoted = |word: &str| word.strip_prefix('`').and_then(|word| word.strip_suffix('`')).map(str::to_string);
+        let first = words.first().and_then(|word| quoted(word));
+        let rule = first.clone().unwrap_or_else(|| rows.last().unwrap().0.clone());
+        let (mode, condition) = match &words[usize::from(first.is_some())..] {
+            [] => (Fair, "1".to_string()),
+            ["fair", condition] => (Fair, quoted(condition).unwrap()),
+            ["stable", condition] => (Stable, quoted(condition).unwrap()),
+            _ => panic!("{part}"),
+        };
+        rows.push((
+            rule,
+            mode,
+            condition,
+            [("can", true), ("cannot", false)].iter().find(|(word, _)| word == can).unwrap().1,
+            n.parse().unwrap(),
+        ));
+    }
+    rows
+}
+
+#[test]
+fn the_specification_has_the_proved_readings() {
+    let text = section("Readings").replace('\n', " ");
+    let (_, rest) = text.split_once(" is named: ").unwrap();
+    let (proved, _) = rest.split_once(" These are proved.").unwrap();
+    let rows = readings_of(proved);
+    let rows: Vec<Row> =
+        rows.iter().map(|(rule, mode, condition, can, n)| (&rule[..], *mode, &condition[..], *can, *n)).collect();
+    assert_eq!(rows, PROVED);
+}
+
 #[test]
 fn proved_readings() {
     for (rule, mode, condition, can, n) in PROVED {
@@ -178,6 +225,23 @@ const EXAMPLE: (&str, &str) = ("1 0\nfair\n1\nFa\n", "cannot 3\n0 - O 0\n1 - O 0
 fn printed_example() {
     let text = airtable(EXAMPLE.0.as_bytes());
     assert_eq!(String::from_utf8(text).unwrap(), EXAMPLE.1);
+}
+
+#[test]
+fn the_specification_has_the_printed_example() {
+    let text = section("Program");
+    let (lines, listing) =
+        text.split_once("\nin byte order").and_then(|(_, rest)| rest.split_once(" it prints\n\n")).unwrap();
+    let input: String = lines
+        .rsplit_once(" On ")
+        .unwrap()
+        .1
+        .split(", ")
+        .map(|line| line.trim_matches('`').to_string() + "\n")
+        .collect();
+    let listing: String =
+        listing.lines().map_while(|line| line.strip_prefix("    ")).map(|line| line.to_string() + "\n").collect();
+    assert_eq!((&input[..], &listing[..]), EXAMPLE);
 }
 
 #[test]

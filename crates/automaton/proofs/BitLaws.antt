@@ -13,8 +13,8 @@ use lib.ListN.{length, getD}
 use lib.Arith.{digits-lt}
 use lib.Bits.{bitAnd, bitOr, bitXor, and-block, or-block, xor-block, or-shifted-r}
 use lib.Pow.{pow-pos, pow-mono, pow-add, high, shl-exact}
-use Rattle.automaton.specs.Limits.{coordinateLimit, vectorLimit, pairLimit}
-use Rattle.automaton.specs.Bits.{wordBits, bit, one, ofBits, gather}
+use Rattle.automaton.specs.Bits.{bit, one, ofBits, gather}
+use Rattle.automaton.specs.inner.Sizes.{coordinateLimit, vectorLimit, pairLimit, wordBits}
 
 pub one-lt : (b : Bool) → one b < 2
 one-lt true = omega arith

@@ -10,12 +10,13 @@ use Rattle.machine.specs.Discovery as machine
 use Rattle.machine.proofs.Reachable.{too-many}
 use Rattle.machine.proofs.AutomatonLaws.{moved-at, automaton-holds}
 use Rattle.reader.specs.Formula.{Formula, operators}
-use Rattle.automaton.specs.Limits.{stateLimit, coordinateLimit}
+use Rattle.automaton.specs.Limits.{stateLimit}
+use Rattle.automaton.specs.inner.Sizes.{coordinateLimit}
 use Rattle.automaton.specs.Bits.{bit, one, ofBits}
 use Rattle.automaton.specs.Trace.{Satisfies}
 use Rattle.automaton.specs.Valuation.{vectors, endVector}
 use Rattle.automaton.specs.State.{start, accepts, machineOf}
-use Rattle.automaton.specs.Discovery.{states, stateCount}
+use Rattle.automaton.specs.Discovery.{states, numberOfStates}
 use Rattle.automaton.specs.Buffer.{Cleared}
 use Rattle.automaton.specs.inner.Exploration.{Explored, BuiltAutomaton}
 use Rattle.automaton.proofs.BitLaws.{one-shifted}
@@ -36,7 +37,7 @@ pub built-within : (φ : Formula) (L r end : ℕ) (transitions t₁ t₂ accepti
     → Cleared 0 (stateLimit * L) transitions t₁ → Kept (r * L) t₁ t₂ → length t₂ ≡ length t₁
     → Cleared 0 stateLimit accepting a₁ → ((s : ℕ) → s < r → getD a₂ s 0 ≡ one (bit (getD list s 0) end)) × Kept r a₁ a₂ → length a₂ ≡ length a₁
     → BuiltAutomaton φ L r transitions accepting t₂ a₂
-unfolding accepts machine.stateCount
+unfolding accepts machine.numberOfStates
 built-within φ L r end transitions t₁ t₂ accepting a₁ a₂ list pos few ex e ct kt lt ca marks la =
     let n : r ≡ min (suc stateLimit) (length (states φ L)) = ex .number in
     let count : r ≡ length (states φ L) = omega arith in
@@ -59,8 +60,8 @@ pub built-beyond : (φ : Formula) (L r : ℕ) (transitions t₁ t₂ t₃ accept
     → Cleared 0 (stateLimit * L) transitions t₁ → Kept (stateLimit * L) t₁ t₂ → length t₂ ≡ length t₁ → Cleared 0 (stateLimit * L) t₂ t₃
     → BuiltAutomaton φ L r transitions accepting t₃ accepting
 built-beyond φ L r transitions t₁ t₂ t₃ accepting list pos many ex c₁ kept e c₃ =
-    let n : r ≡ min (suc stateLimit) (stateCount φ L) = ex .number in
-    let more : stateLimit < stateCount φ L = omega arith in
+    let n : r ≡ min (suc stateLimit) (numberOfStates φ L) = ex .number in
+    let more : stateLimit < numberOfStates φ L = omega arith in
     record {
       within = λ q. absurd (let z : ⊥ = omega arith in z);
       beyond = λ q.

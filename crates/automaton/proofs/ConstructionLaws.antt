@@ -23,14 +23,14 @@ use Rattle.reader.proofs.Unambiguous.{one-formula, some-reading}
 use Rattle.automaton.specs.declared.construct.Construction.the-variants.{Built, Refused}
 use Rattle.automaton.specs.Limits.{stateLimit}
 use Rattle.automaton.specs.Alphabet.{badAlphabet, letterCount}
-use Rattle.automaton.specs.Discovery.{stateCount}
+use Rattle.automaton.specs.Discovery.{numberOfStates}
 use Rattle.automaton.specs.Construction.{CountOf, shortAutomaton, constructRefusal, Constructed}
 use Rattle.automaton.specs.inner.Exploration.{WithinLimit, BeyondLimit}
 use Rattle.automaton.proofs.ReadLaws.{count-of}
 
 -- the text of a formula counts its states
-pub counts : (i o : ℕ) (text : List ℕ) (φ : Formula) → IsGood i (ruleKind i o) text φ → (n : ℕ) → n ≡ stateCount φ (letterCount i o) → CountOf i o text n
-counts i o text φ g n e ψ h = e ∙ ap (λ (χ : Formula). stateCount χ (letterCount i o)) (one-formula i o true text (g .reads) (h .reads))
+pub counts : (i o : ℕ) (text : List ℕ) (φ : Formula) → IsGood i (ruleKind i o) text φ → (n : ℕ) → n ≡ numberOfStates φ (letterCount i o) → CountOf i o text n
+counts i o text φ g n e ψ h = e ∙ ap (λ (χ : Formula). numberOfStates χ (letterCount i o)) (one-formula i o true text (g .reads) (h .reads))
 
 -- buffers that are not too short
 pub long-enough : (L : ℕ) (t a : List ℕ) → shortAutomaton L t a ≡ false → (stateLimit * L ≤ length t) × (stateLimit ≤ length a)
@@ -98,10 +98,10 @@ module _ (i o : ℕ) (text t a : List ℕ) where
               record {
                 reading = Good m;
                 read = r;
-                states = stateCount φ (letterCount i o);
-                counted = counts i o text φ g (stateCount φ (letterCount i o)) refl;
+                states = numberOfStates φ (letterCount i o);
+                counted = counts i o text φ g (numberOfStates φ (letterCount i o)) refl;
                 refusal = StateCount;
-                first = sym (counted-refusal m (stateCount φ (letterCount i o)) ∙ rw (lt-ltb stateLimit (stateCount φ (letterCount i o)) (v .count)));
+                first = sym (counted-refusal m (numberOfStates φ (letterCount i o)) ∙ rw (lt-ltb stateLimit (numberOfStates φ (letterCount i o)) (v .count)));
                 number = refl;
                 place = refl;
                 answer = refl;

@@ -13,7 +13,7 @@ use Rattle.reader.specs.Limits.{nodeLimit}
 use Rattle.reader.specs.Formula.{Unary, Binary, neg, next, weak, eventually, always, until, release, conj, disj, impl, withUnary, withBinary}
 use Rattle.reader.specs.Formula.{Formula, constant, name, unary, binary, operators}
 use Rattle.reader.specs.inner.Nodes.{unaryCode, binaryCode, fieldSize, wordOf}
-use Rattle.automaton.specs.Limits.{coordinateLimit, vectorLimit}
+use Rattle.automaton.specs.inner.Sizes.{coordinateLimit, vectorLimit}
 use Rattle.automaton.specs.Bits.{bit, ofBits, gather}
 use Rattle.automaton.specs.Valuation.{value, coords, ends, present, endVector}
 use Rattle.automaton.specs.inner.Representation.{Represents}

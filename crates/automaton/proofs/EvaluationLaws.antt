@@ -14,7 +14,7 @@ use Rattle.reader.specs.Limits.{nodeLimit}
 use Rattle.reader.specs.Formula.{Unary, Binary, neg, next, weak, eventually, always, until, release, conj, disj, impl, withUnary, withBinary}
 use Rattle.reader.specs.Formula.{Formula, constant, name, unary, binary, operators}
 use Rattle.reader.specs.inner.Nodes.{constantCode, unaryCode, binaryCode, fieldSize, wordOf}
-use Rattle.automaton.specs.Limits.{vectorLimit}
+use Rattle.automaton.specs.inner.Sizes.{vectorLimit}
 use Rattle.automaton.specs.Bits.{bit, ofBits}
 use Rattle.automaton.specs.Valuation.{value}
 use Rattle.automaton.specs.inner.Nodes.{Node, at-constant, at-name, at-unary, at-binary, nodeKind, leftOf, argumentOf}

@@ -13,7 +13,7 @@ use lib.Dec.{eqb}
 use lib.ListN.{getD, length, set, drop}
 use lib.Seq.{getD-set-same, getD-set-other, drop-cons}
 use Rattle.reader.specs.Formula.{Formula, operators}
-use Rattle.automaton.specs.Limits.{pairLimit}
+use Rattle.automaton.specs.inner.Sizes.{pairLimit}
 use Rattle.automaton.specs.Bits.{one}
 use Rattle.automaton.specs.Valuation.{present, vectors}
 use Rattle.automaton.specs.inner.Representation.{Tabulates}

@@ -16,7 +16,7 @@ use Rattle.reader.specs.Reading.{ReadingOf, IsGood}
 use Rattle.reader.specs.inner.Nodes.{Written, nodesOf}
 use Rattle.reader.proofs.Unambiguous.{one-formula, never-both, some-reading}
 use Rattle.automaton.specs.Alphabet.{letterCount}
-use Rattle.automaton.specs.Discovery.{stateCount}
+use Rattle.automaton.specs.Discovery.{numberOfStates}
 use Rattle.automaton.specs.inner.Representation.{Represents}
 use Rattle.automaton.specs.Construction.{CountOf}
 use Rattle.automaton.proofs.NodeLaws.{written-represents}
@@ -47,7 +47,7 @@ read-represents i o t text nodes ρ n e a b =
 pub count-of : (i o : ℕ) (text : List ℕ) (ρ : Reading) → ReadingOf i (ruleKind i o) text ρ → (n : ℕ) × CountOf i o text n
 unfolding ReadingOf
 count-of i o text (Good n) r =
-    (stateCount (r .0) (letterCount i o), λ φ g. ap (λ (ψ : Formula). stateCount ψ (letterCount i o)) (one-formula i o true text (r .1 .reads) (g .reads)))
+    (numberOfStates (r .0) (letterCount i o), λ φ g. ap (λ (ψ : Formula). numberOfStates ψ (letterCount i o)) (one-formula i o true text (r .1 .reads) (g .reads)))
 count-of i o text TooLong r = (0, λ φ g. let h = g .short in let z : ⊥ = omega (arith, r) in absurd z)
 count-of i o text (Bad k) r = (0, λ φ g. absurd (never-both i o true text (g .reads) (r .1)))
 count-of i o text TooManyNodes r =

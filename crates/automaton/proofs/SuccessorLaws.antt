@@ -1,4 +1,5 @@
--- The state after a letter (specs/State.antt), read off the table of valuations (specs/Representation.antt). Assumes nothing.
+-- The state after a letter (specs/State.antt), read off the table of valuations (specs/inner/Representation.antt).
+-- Assumes nothing.
 use Prim.Native.Nat.{ℕ, suc, _+_, _*_, _/_, _%_, _^_, _≤_, _<_}
 use mathlib.Core.Path.{_≡_, ap, _∙_}
 use mathlib.Core.Bool.{Bool}
@@ -7,7 +8,7 @@ use native.Mathlib.Nat.{mod-eq-of-lt, pow-suc}
 use native.Mathlib.Omega.{arith}
 use lib.ListN.{getD}
 use Rattle.reader.specs.Formula.{Formula, operators}
-use Rattle.automaton.specs.Limits.{vectorLimit, pairLimit}
+use Rattle.automaton.specs.inner.Sizes.{vectorLimit, pairLimit}
 use Rattle.automaton.specs.Bits.{bit, ofBits}
 use Rattle.automaton.specs.Valuation.{present, vectors}
 use Rattle.automaton.specs.State.{after}

@@ -7,10 +7,6 @@ use lib.Dec.{eqb}
 use lib.ListN.{length, getD}
 pub use Rattle.machine.specs.Automaton.{one}
 
--- the bits of a machine's word
-abbrev pub wordBits : ℕ
-wordBits = 64
-
 -- bit k of x
 unfoldable pub bit : ℕ → ℕ → Bool
 bit x k = eqb (x / 2 ^ k % 2) 1

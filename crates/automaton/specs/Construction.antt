@@ -7,6 +7,7 @@ use mathlib.Core.Bool.{Bool, cond, _||_}
 use mathlib.Core.List.{List}
 use lib.Dec.{ltb}
 use lib.ListN.{length}
+use Rattle.reader.specs.Text.{Text}
 use Rattle.reader.specs.declared.reading.Reading.{Reading}
 use Rattle.reader.specs.declared.refusal.Refusal.{Refusal}
 use Rattle.reader.specs.declared.refusal.Refusal.the-variants.{Nothing, Alphabet, TextLength, Buffer, StateCount}
@@ -19,20 +20,20 @@ use Rattle.automaton.specs.declared.construct.Construction.{Construction
 use Rattle.automaton.specs.declared.construct.Construction.the-variants.{Built, Refused}
 use Rattle.automaton.specs.Limits.{stateLimit}
 use Rattle.automaton.specs.Alphabet.{badAlphabet, letterCount}
-use Rattle.automaton.specs.Discovery.{stateCount}
+use Rattle.automaton.specs.Discovery.{numberOfStates}
 use Rattle.automaton.specs.Automaton.{Automaton, TooManyStates}
 use Rattle.automaton.specs.Buffer.{Cleared}
 
 -- n is the number of the rule's states, if the text is a rule within its limits
-abbrev pub CountOf : (i o : ℕ) (text : List ℕ) (n : ℕ) → Type 0
-CountOf i o text n = (φ : Formula) → IsGood i (ruleKind i o) text φ → n ≡ stateCount φ (letterCount i o)
+abbrev pub CountOf : (i o : ℕ) (text : Text) (n : ℕ) → Type 0
+CountOf i o text n = (φ : Formula) → IsGood i (ruleKind i o) text φ → n ≡ numberOfStates φ (letterCount i o)
 
 -- the buffers are too short for as many states as the limit
 abbrev pub shortAutomaton : (L : ℕ) (transitions accepting : List ℕ) → Bool
 shortAutomaton L transitions accepting = ltb (length transitions) (stateLimit * L) || ltb (length accepting) stateLimit
 
 -- the refusal that comes first, for a text with the reading ρ whose rule has n states
-unfoldable pub constructRefusal : (i o : ℕ) (text transitions accepting : List ℕ) (ρ : Reading) (n : ℕ) → Refusal
+unfoldable pub constructRefusal : (i o : ℕ) (text : Text) (transitions accepting : List ℕ) (ρ : Reading) (n : ℕ) → Refusal
 constructRefusal i o text transitions accepting ρ n =
     cond (badAlphabet i o) Alphabet
     (cond (tooLong text) TextLength
@@ -50,7 +51,7 @@ constructionPlace (Built n) = 0
 constructionPlace (Refused x) = placeOf x
 
 -- the buffers of a served call: the automaton of the text's formula with n states, 0 up to the share of as many states as the limit, and beyond as they were
-pub record ConstructionServed (i o : ℕ) (text : List ℕ) (n : ℕ) (transitions accepting transitions′ accepting′ : List ℕ) : Type 0 where
+pub record ConstructionServed (i o : ℕ) (text : Text) (n : ℕ) (transitions accepting transitions′ accepting′ : List ℕ) : Type 0 where
   pub formula : Formula
   pub good : IsGood i (ruleKind i o) text formula
   pub automaton : Automaton formula (letterCount i o) n transitions′ accepting′
@@ -58,7 +59,7 @@ pub record ConstructionServed (i o : ℕ) (text : List ℕ) (n : ℕ) (transitio
   pub accepting-rest : Cleared n stateLimit accepting accepting′
 
 -- the buffers after refusal 9: the transitions' share is 0
-pub record Over (i o : ℕ) (text transitions accepting transitions′ accepting′ : List ℕ) : Type 0 where
+pub record Over (i o : ℕ) (text : Text) (transitions accepting transitions′ accepting′ : List ℕ) : Type 0 where
   pub formula : Formula
   pub good : IsGood i (ruleKind i o) text formula
   pub many : TooManyStates formula (letterCount i o)
@@ -66,7 +67,7 @@ pub record Over (i o : ℕ) (text transitions accepting transitions′ accepting
   pub untouched : accepting′ ≡ accepting
 
 -- the whole promise: the answer and both buffers on every input
-pub record Constructed (i o : ℕ) (text transitions accepting transitions′ accepting′ : List ℕ) (r : Construction) : Type 0 where
+pub record Constructed (i o : ℕ) (text : Text) (transitions accepting transitions′ accepting′ : List ℕ) (r : Construction) : Type 0 where
   pub reading : Reading
   pub read : ReadingOf i (ruleKind i o) text reading
   pub states : ℕ

@@ -13,5 +13,5 @@ abbrev pub states : (φ : Formula) (L : ℕ) → List ℕ
 states φ L = machine.states (machineOf φ) L stateLimit
 
 -- their number: the specification's n where it is at most the limit, and else more than the limit
-abbrev pub stateCount : (φ : Formula) (L : ℕ) → ℕ
-stateCount φ L = machine.stateCount (machineOf φ) L stateLimit
+abbrev pub numberOfStates : (φ : Formula) (L : ℕ) → ℕ
+numberOfStates φ L = machine.numberOfStates (machineOf φ) L stateLimit

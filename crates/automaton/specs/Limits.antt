@@ -1,7 +1,6 @@
--- The limits on inputs, outputs and states (specification, refusals 1, 9 and 10, and "Calls"), and what follows from them and from the reader's.
+-- The limits on inputs, outputs and states (specification, refusals 1, 9 and 10, and "Calls"), and the numbers and letters that follow from them.
 -- Assumes nothing.
-use Prim.Native.Nat.{ℕ, suc, _+_, _*_, _/_, _^_}
-use Rattle.reader.specs.Limits.{operatorLimit}
+use Prim.Native.Nat.{ℕ, _*_, _^_}
 
 -- inputs at most, and outputs at most
 abbrev pub nameLimit : ℕ
@@ -18,15 +17,3 @@ numberLimit = 2 ^ nameLimit
 -- letters at most
 abbrev pub letterLimit : ℕ
 letterLimit = numberLimit * numberLimit
-
--- coordinates of a valuation at most: the formula's own, and one for each temporal operator
-abbrev pub coordinateLimit : ℕ
-coordinateLimit = suc operatorLimit
-
--- valuations at most
-abbrev pub vectorLimit : ℕ
-vectorLimit = 2 ^ coordinateLimit
-
--- pairs of valuations that differ in coordinate 0 only, at most
-abbrev pub pairLimit : ℕ
-pairLimit = vectorLimit / 2

@@ -1,5 +1,6 @@
 -- Definitions that contracts of private functions and proofs use; no promise of a call that the specification names rests on one of them.
 -- Assumes nothing.
+pub mod Sizes
 pub mod Representation
 pub mod Nodes
 pub mod Evaluation

@@ -1,7 +1,8 @@
 // Single bits of a word.
 ghost use mathlib.Core.Path.{_≡_};
 ghost use Prim.Native.Nat.{_+_, _*_, _<_, _^_};
-ghost use Rattle.automaton.specs.Bits.{wordBits, bit, one};
+ghost use Rattle.automaton.specs.Bits.{bit, one};
+ghost use Rattle.automaton.specs.inner.Sizes.{wordBits};
 
 // The bits of a word.
 pub(crate) const WORD_BITS: usize = 64;

@@ -1,7 +1,7 @@
 // The sets of valuations that a coordinate decides.
 ghost use mathlib.Core.Path.{_≡_};
 ghost use Prim.Native.Nat.{_≤_};
-ghost use Rattle.automaton.specs.Limits.{vectorLimit};
+ghost use Rattle.automaton.specs.inner.Sizes.{vectorLimit};
 ghost use Rattle.automaton.specs.Bits.{bit, ofBits};
 use crate::limits::COORDINATE_LIMIT;
 use crate::limits::VECTOR_LIMIT;

@@ -3,7 +3,7 @@ ghost use mathlib.Core.Path.{_≡_};
 ghost use Prim.Native.Nat.{_-_, _≤_};
 ghost use lib.ListN.{getD};
 ghost use Rattle.reader.specs.Limits.{nodeLimit};
-ghost use Rattle.automaton.specs.Limits.{vectorLimit};
+ghost use Rattle.automaton.specs.inner.Sizes.{vectorLimit};
 ghost use Rattle.automaton.specs.Bits.{bit, ofBits};
 ghost use Rattle.automaton.specs.inner.Evaluation.{nodeWord, Evaluated};
 use crate::bits::WORD_BITS;

@@ -3,7 +3,7 @@ ghost use mathlib.Core.Path.{_≡_};
 ghost use Prim.Native.Nat.{suc, _≤_};
 ghost use Rattle.reader.specs.Limits.{nodeLimit};
 ghost use Rattle.reader.specs.Formula.{Formula, operators};
-ghost use Rattle.automaton.specs.Limits.{coordinateLimit};
+ghost use Rattle.automaton.specs.inner.Sizes.{coordinateLimit};
 ghost use Rattle.automaton.specs.Bits.{bit};
 ghost use Rattle.automaton.specs.inner.Representation.{Represents};
 ghost use Rattle.automaton.specs.inner.Fold.{valuation};

@@ -1,4 +1,4 @@
-// The limits of the automaton layer, and the sizes that follow from them. specs/Limits.antt has the same ones for the contracts.
+// The limits of the automaton layer, and the sizes that follow from them. specs/Limits.antt and specs/inner/Sizes.antt have those that the contracts name.
 use reader::limits::FIELD_SIZE;
 use reader::limits::OPERATOR_LIMIT;
 

@@ -4,7 +4,7 @@ ghost use Prim.Native.Nat.{ℕ, suc, _≤_, _<_};
 ghost use lib.ListN.{getD};
 ghost use Rattle.reader.specs.Limits.{nodeLimit};
 ghost use Rattle.reader.specs.Formula.{Formula, operators};
-ghost use Rattle.automaton.specs.Limits.{coordinateLimit, vectorLimit};
+ghost use Rattle.automaton.specs.inner.Sizes.{coordinateLimit, vectorLimit};
 ghost use Rattle.automaton.specs.Bits.{bit, one, ofBits};
 ghost use Rattle.automaton.specs.Valuation.{value, present, endVector};
 ghost use Rattle.automaton.specs.inner.Representation.{Represents};

@@ -4,7 +4,7 @@
 -- Assumes nothing.
 use Prim.Native.Nat.{ℕ}
 use mathlib.Core.Path.{_≡_}
-use mathlib.Core.List.{List}
+use Rattle.plays.specs.Strategy.{Table}
 use Rattle.game.specs.Rule.{Buffers}
 use Rattle.game.specs.Agreement.{TablesAfter}
 
@@ -19,7 +19,7 @@ pub record RuleWrittenAgree (inputs : ℕ) (new new′ : Buffers) (number can n 
   pub tables : TablesAfter number n inputs (new .system) (new .environment) (new′ .system) (new′ .environment)
 
 -- the call for a given automaton with n states
-pub record GivenWrittenAgree (n inputs : ℕ) (σ τ σ′ τ′ : List ℕ) (number can place number′ can′ place′ : ℕ) : Type 0 where
+pub record GivenWrittenAgree (n inputs : ℕ) (σ τ σ′ τ′ : Table) (number can place number′ can′ place′ : ℕ) : Type 0 where
   pub same-number : number ≡ number′
   pub same-can : can ≡ can′
   pub same-place : place ≡ place′

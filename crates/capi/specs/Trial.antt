@@ -2,7 +2,8 @@
 -- Assumes nothing.
 use Prim.Native.Nat.{ℕ}
 use mathlib.Core.Path.{_≡_}
-use mathlib.Core.List.{List}
+use Rattle.machine.specs.Letters.{Trace}
+use Rattle.reader.specs.Text.{Text}
 use Rattle.automaton.specs.declared.trial.Trial.{Trial}
 use Rattle.automaton.specs.declared.trial.Trial.the-variants.{Satisfied, Violated, Refused}
 use Rattle.automaton.specs.Trial.{trialNumber, trialPlace, Tried}
@@ -14,7 +15,7 @@ satisfiedFlag Violated = 0
 satisfiedFlag (Refused x) = 0
 
 -- the library's answer, and the three numbers of it
-pub record TrialWritten (i o : ℕ) (text letters : List ℕ) (number satisfied place : ℕ) : Type 0 where
+pub record TrialWritten (i o : ℕ) (text : Text) (letters : Trace) (number satisfied place : ℕ) : Type 0 where
   pub answer : Trial
   pub tried : Tried i o text letters answer
   pub number-of : number ≡ trialNumber answer

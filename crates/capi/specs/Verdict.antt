@@ -2,7 +2,8 @@
 -- Assumes nothing.
 use Prim.Native.Nat.{ℕ}
 use mathlib.Core.Path.{_≡_}
-use mathlib.Core.List.{List}
+use Rattle.plays.specs.Strategy.{Table}
+use Rattle.reader.specs.Text.{Text}
 use Rattle.plays.specs.declared.mode.Mode.{Mode}
 use Rattle.game.specs.declared.answer.Answer.{Answer}
 use Rattle.game.specs.declared.answer.Answer.the-variants.{Can, Cannot, Refused}
@@ -18,7 +19,7 @@ canFlag (Cannot n) = 0
 canFlag (Refused x) = 0
 
 -- the rule call: the library's answer, and the four numbers of it
-pub record RuleWritten (mode : Mode) (i o : ℕ) (rule condition : List ℕ) (old new : Buffers) (number can n place : ℕ) : Type 0 where
+pub record RuleWritten (mode : Mode) (i o : ℕ) (rule condition : Text) (old new : Buffers) (number can n place : ℕ) : Type 0 where
   pub answer : Answer
   pub solved : RuleSolved mode i o rule condition old new answer
   pub number-of : number ≡ answerNumber answer
@@ -27,7 +28,7 @@ pub record RuleWritten (mode : Mode) (i o : ℕ) (rule condition : List ℕ) (ol
   pub place-of : place ≡ answerPlace answer
 
 -- the call for a given automaton: the library's answer, and the three numbers of it
-pub record GivenWritten (mode : Mode) (i o start : ℕ) (G : Arena) (σ₀ τ₀ σ τ : List ℕ) (number can place : ℕ) : Type 0 where
+pub record GivenWritten (mode : Mode) (i o start : ℕ) (G : Arena) (σ₀ τ₀ σ τ : Table) (number can place : ℕ) : Type 0 where
   pub answer : Answer
   pub solved : GivenSolved mode i o start G σ₀ τ₀ σ τ answer
   pub number-of : number ≡ answerNumber answer

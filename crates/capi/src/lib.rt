@@ -25,7 +25,7 @@ use crate::trial::trial_place;
 use crate::verdict::answer_number;
 use crate::verdict::answer_place;
 use crate::verdict::can_flag;
-use crate::verdict::state_count;
+use crate::verdict::states_of;
 use automaton::trial::try_rule;
 use game::follow::Position;
 use game::given::solve_given;
@@ -63,7 +63,7 @@ pub extern "C" fn airtable_solve_rule(
         outside,
     );
     *can = can_flag(answer);
-    *n = state_count(answer);
+    *n = states_of(answer);
     *place = answer_place(answer);
     answer_number(answer)
 }

@@ -40,7 +40,7 @@ pub(crate) fn can_flag(answer: Answer) -> u8
 }
 
 // The number of states, 0 for a refusal.
-pub(crate) fn state_count(answer: Answer) -> usize
+pub(crate) fn states_of(answer: Answer) -> usize
     ensures { λ r. ⌜ r ≡ answerStates answer ⌝ }
 {
     match answer {

@@ -1,4 +1,4 @@
--- The rule call's tests before 9 (specs/RuleChecks.antt), by the test that decided.
+-- The rule call's tests before 9 (specs/inner/RuleChecks.antt), by the test that decided.
 -- Assumes nothing.
 use Prim.Native.Nat.{ℕ, _*_, _^_, _<_, _≤_}
 use mathlib.Core.Path.{_≡_, refl, sym, ap, _∙_, subst}

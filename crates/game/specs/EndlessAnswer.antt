@@ -3,6 +3,7 @@
 -- Assumes nothing.
 use Prim.Native.Nat.{ℕ}
 use mathlib.Core.List.{List}
+use Rattle.reader.specs.Text.{Text}
 use Rattle.reader.specs.Formula.{Formula}
 use Rattle.reader.specs.Marks.{ruleKind, conditionKind}
 use Rattle.reader.specs.Reading.{IsGood}
@@ -22,7 +23,7 @@ abbrev pub Satisfying : Formula → Arena → List Step → Type 0
 Satisfying φ G p = Satisfies φ (letters G p)
 
 -- the formulas of a rule and of a condition, whose mask judges inputs as the condition does
-pub record Texts (i o : ℕ) (rule condition : List ℕ) : Type 0 where
+pub record Texts (i o : ℕ) (rule condition : Text) : Type 0 where
   pub formula : Formula
   pub good : IsGood i (ruleKind i o) rule formula
   pub assumption : Formula
@@ -34,7 +35,7 @@ abbrev pub arenaLeft : (i o n : ℕ) (new : Buffers) (κ : Formula) → Arena
 arenaLeft i o n new κ = arena i o n (new .transitions) (new .accepting) (maskOf κ i)
 
 -- the rule call's answer: on "can" and on "cannot", in terms of beginnings that satisfy the rule
-abbrev pub RuleEndless : (mode : Mode) (i o : ℕ) (rule condition : List ℕ) (new : Buffers) (r : Answer) → Type 0
+abbrev pub RuleEndless : (mode : Mode) (i o : ℕ) (rule condition : Text) (new : Buffers) (r : Answer) → Type 0
 RuleEndless mode i o rule condition new (Can n) =
     (t : Texts i o rule condition)
     × CanEndless mode (arenaLeft i o n new (t .assumption)) (new .system) 0 (Satisfying (t .formula) (arenaLeft i o n new (t .assumption)))

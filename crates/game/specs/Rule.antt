@@ -6,6 +6,7 @@ use mathlib.Core.Bool.{Bool, true, false, cond, _||_}
 use mathlib.Core.List.{List}
 use lib.Dec.{ltb}
 use lib.ListN.{length, take}
+use Rattle.reader.specs.Text.{Text}
 use Rattle.reader.specs.declared.reading.Reading.{Reading}
 use Rattle.reader.specs.declared.refusal.Refusal.{Refusal}
 use Rattle.reader.specs.declared.refusal.Refusal.the-variants.{Nothing, Alphabet, TextLength, Buffer, StateCount}
@@ -65,7 +66,7 @@ shortBuffers i o old =
     || (ltb (length (old .system)) (stateLimit * 2 ^ i) || ltb (length (old .environment)) stateLimit)
 
 -- the refusal that comes first, for texts with the readings ρ and κ and a rule with n states
-unfoldable pub ruleRefusal : (i o : ℕ) (rule condition : List ℕ) (old : Buffers) (ρ κ : Reading) (n : ℕ) → Refusal
+unfoldable pub ruleRefusal : (i o : ℕ) (rule condition : Text) (old : Buffers) (ρ κ : Reading) (n : ℕ) → Refusal
 ruleRefusal i o rule condition old ρ κ n =
     cond (badAlphabet i o) Alphabet
     (cond (tooLong rule || tooLong condition) TextLength
@@ -75,7 +76,7 @@ ruleRefusal i o rule condition old ρ κ n =
     (cond (ltb stateLimit n) StateCount Nothing)))))
 
 -- a served call: the formulas of the two texts, the automaton, both tables, the verdict and what it promises
-pub record RuleServed (mode : Mode) (i o : ℕ) (rule condition : List ℕ) (old new : Buffers) (n : ℕ) (can : Bool) : Type 0 where
+pub record RuleServed (mode : Mode) (i o : ℕ) (rule condition : Text) (old new : Buffers) (n : ℕ) (can : Bool) : Type 0 where
   pub formula : Formula
   pub good : IsGood i (ruleKind i o) rule formula
   pub assumption : Formula
@@ -91,7 +92,7 @@ pub record RuleServed (mode : Mode) (i o : ℕ) (rule condition : List ℕ) (old
   pub cannot-promise : can ≡ false → Cannot mode formula (arena i o n (new .transitions) (new .accepting) (maskOf assumption i)) (new .environment)
 
 -- the whole promise: the specification's number and place, the answer and the four buffers on every input
-pub record RuleSolved (mode : Mode) (i o : ℕ) (rule condition : List ℕ) (old new : Buffers) (r : Answer) : Type 0 where
+pub record RuleSolved (mode : Mode) (i o : ℕ) (rule condition : Text) (old new : Buffers) (r : Answer) : Type 0 where
   pub reading : Reading
   pub read : ReadingOf i (ruleKind i o) rule reading
   pub condition-reading : Reading

@@ -1,4 +1,4 @@
--- What writing from a position on comes to (specs/Writing.antt): the bytes as far as they fit, between what stood before and what stands after.
+-- What writing from a position on comes to (specs/inner/Writing.antt): the bytes as far as they fit, between what stood before and what stands after.
 -- Assumes nothing.
 use Prim.Native.Nat.{ℕ, suc, _+_, _-_, _≤_, _<_, min}
 use mathlib.Core.Path.{_≡_, refl, sym, subst, _∙_}

@@ -1,4 +1,4 @@
--- Laws of writing (specs/Writing.antt): the output's size stays, writing two texts one after the other is writing both, and the bytes fill the output
+-- Laws of writing (specs/inner/Writing.antt): the output's size stays, writing two texts one after the other is writing both, and the bytes fill the output
 -- from the position on.
 -- Assumes nothing.
 use Prim.Native.Nat.{ℕ, _+_, _≤_, _<_}

@@ -10,7 +10,7 @@ abbrev pub digit : ℕ → ℕ
 digit d = 48 + d
 
 -- the digits of n, the most significant first, at most one more than the first number says
-unfoldable pub digits : ℕ → ℕ → List ℕ
+unfoldable pub digits : (k n : ℕ) → List ℕ
 digits zero n = digit n ∷ []
 digits (suc k) n = cond (ltb n 10) (digit n ∷ []) (digits k (n / 10) ++ (digit (n % 10) ∷ []))
 

@@ -4,8 +4,9 @@
 -- Assumes nothing.
 use Prim.Native.Nat.{ℕ, _≤_}
 use mathlib.Core.Path.{_≡_}
-use mathlib.Core.List.{List, [], _∷_, _++_}
+use mathlib.Core.List.{[], _∷_, _++_}
 use lib.ListN.{length}
+use Rattle.reader.specs.Text.{Text}
 use Rattle.plays.specs.declared.mode.Mode.{Mode}
 use Rattle.plays.specs.declared.mode.Mode.the-variants.{Fair, Stable}
 use Rattle.listing.specs.Decimal.{digit}
@@ -21,23 +22,23 @@ abbrev pub blank : ℕ
 blank = 32
 
 -- `fair` and `stable`
-abbrev pub fairWord : List ℕ
+abbrev pub fairWord : Text
 fairWord = 102 ∷ 97 ∷ 105 ∷ 114 ∷ []
 
-abbrev pub stableWord : List ℕ
+abbrev pub stableWord : Text
 stableWord = 115 ∷ 116 ∷ 97 ∷ 98 ∷ 108 ∷ 101 ∷ []
 
-abbrev pub modeWord : Mode → List ℕ
+abbrev pub modeWord : Mode → Text
 modeWord Fair = fairWord
 modeWord Stable = stableWord
 
 -- no byte ends a line
-unfoldable pub Line : List ℕ → Type 0
+unfoldable pub Line : Text → Type 0
 Line [] = Unit {0}
 Line (b ∷ bytes) = (b ≡ newline → ⊥) × Line bytes
 
 -- the input asks for i inputs, o outputs, the mode, the condition and the rule
-pub record Asks (input : List ℕ) (i o : ℕ) (mode : Mode) (condition rule : List ℕ) : Type 0 where
+pub record Asks (input : Text) (i o : ℕ) (mode : Mode) (condition rule : Text) : Type 0 where
   pub short : length input ≤ inputLimit
   pub inputs : i ≤ 9
   pub outputs : o ≤ 9

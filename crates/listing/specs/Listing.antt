@@ -6,6 +6,9 @@ use mathlib.Core.Bool.{Bool, cond}
 use mathlib.Core.List.{List, [], _∷_, _++_}
 use lib.Dec.{eqb}
 use lib.ListN.{getD}
+use Rattle.plays.specs.Strategy.{Table}
+use Rattle.plays.specs.Arena.{State}
+use Rattle.reader.specs.Text.{Text}
 use Rattle.reader.specs.Refusal.{numberOf, placeOf}
 use Rattle.game.specs.declared.answer.Answer.{Answer}
 use Rattle.game.specs.declared.answer.Answer.the-variants.{Can, Cannot, Refused}
@@ -15,61 +18,61 @@ use Rattle.listing.specs.Decimal.{decimal}
 use Rattle.listing.specs.Input.{newline, blank}
 
 -- `can`, `cannot` and `refused`, each with the blank after it
-abbrev pub canWord : List ℕ
+abbrev pub canWord : Text
 canWord = 99 ∷ 97 ∷ 110 ∷ blank ∷ []
 
-abbrev pub cannotWord : List ℕ
+abbrev pub cannotWord : Text
 cannotWord = 99 ∷ 97 ∷ 110 ∷ 110 ∷ 111 ∷ 116 ∷ blank ∷ []
 
-abbrev pub refusedWord : List ℕ
+abbrev pub refusedWord : Text
 refusedWord = 114 ∷ 101 ∷ 102 ∷ 117 ∷ 115 ∷ 101 ∷ 100 ∷ blank ∷ []
 
 -- the bytes of a table from an index on, so many of them, each after a blank
-unfoldable pub fields : List ℕ → ℕ → ℕ → List ℕ
+unfoldable pub fields : (table : Table) (from count : ℕ) → Text
 fields table from zero = []
 fields table from (suc count) = (blank ∷ decimal (getD table from 0)) ++ fields table (suc from) count
 
 -- `*` for a goal, `-` for any other state
-abbrev pub goalMark : List ℕ → ℕ → ℕ
+abbrev pub goalMark : (accepting : List ℕ) (s : State) → ℕ
 goalMark accepting s = cond (eqb (getD accepting s 0) 0) 45 42
 
 -- the system, the specification's station, wins a state where the environment has no move
-abbrev pub wonBySystem : List ℕ → ℕ → Bool
+abbrev pub wonBySystem : (environment : Table) (s : State) → Bool
 wonBySystem environment s = eqb (getD environment s 0) noMove
 
 -- the winner, `S` or `O`, and its row: byte s × 2^i + X for each input X, or byte s
-unfoldable pub winnerFields : ℕ → List ℕ → List ℕ → ℕ → List ℕ
+unfoldable pub winnerFields : (inputs : ℕ) (system environment : Table) (s : State) → Text
 winnerFields inputs system environment s =
     cond (wonBySystem environment s)
     ((83 ∷ []) ++ fields system (s * inputs) inputs)
     ((79 ∷ []) ++ fields environment s 1)
 
 -- the line of a state
-unfoldable pub stateLine : ℕ → List ℕ → List ℕ → List ℕ → ℕ → List ℕ
+unfoldable pub stateLine : (inputs : ℕ) (accepting : List ℕ) (system environment : Table) (s : State) → Text
 stateLine inputs accepting system environment s =
     decimal s ++ ((blank ∷ goalMark accepting s ∷ blank ∷ []) ++ (winnerFields inputs system environment s ++ (newline ∷ [])))
 
 -- the lines of so many states from s on
-unfoldable pub stateLines : ℕ → List ℕ → List ℕ → List ℕ → ℕ → ℕ → List ℕ
+unfoldable pub stateLines : (inputs : ℕ) (accepting : List ℕ) (system environment : Table) (s : State) (count : ℕ) → Text
 stateLines inputs accepting system environment s zero = []
 stateLines inputs accepting system environment s (suc count) =
     stateLine inputs accepting system environment s ++ stateLines inputs accepting system environment (suc s) count
 
 -- a refusal's line
-unfoldable pub refusalLine : ℕ → ℕ → List ℕ
+unfoldable pub refusalLine : (number place : ℕ) → Text
 refusalLine number place = refusedWord ++ (decimal number ++ ((blank ∷ decimal place) ++ (newline ∷ [])))
 
 -- a verdict's lines: its word, n, and the n states
-unfoldable pub verdictLines : ℕ → List ℕ → List ℕ → List ℕ → List ℕ → ℕ → List ℕ
+unfoldable pub verdictLines : (inputs : ℕ) (accepting : List ℕ) (system environment : Table) (word : Text) (n : ℕ) → Text
 verdictLines inputs accepting system environment word n =
     word ++ (decimal n ++ ((newline ∷ []) ++ stateLines inputs accepting system environment 0 n))
 
 -- the whole listing, with i inputs
-abbrev pub listing : ℕ → Buffers → Answer → List ℕ
+abbrev pub listing : (i : ℕ) (tables : Buffers) (r : Answer) → Text
 listing i tables (Can n) = verdictLines (2 ^ i) (tables .accepting) (tables .system) (tables .environment) canWord n
 listing i tables (Cannot n) = verdictLines (2 ^ i) (tables .accepting) (tables .system) (tables .environment) cannotWord n
 listing i tables (Refused x) = refusalLine (numberOf x) (placeOf x)
 
 -- refusal 14, which only the program has: the input is no request
-abbrev pub malformed : List ℕ
+abbrev pub malformed : Text
 malformed = refusalLine 14 0

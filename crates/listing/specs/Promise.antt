@@ -3,9 +3,10 @@
 -- Assumes nothing.
 use Prim.Native.Nat.{ℕ, suc, _*_, min}
 use mathlib.Core.Path.{_≡_}
-use mathlib.Core.List.{List, _++_}
+use mathlib.Core.List.{_++_}
 use mathlib.Core.Logic.{_⊎_}
 use lib.ListN.{length, take, drop, replicate}
+use Rattle.reader.specs.Text.{Text}
 use Rattle.plays.specs.declared.mode.Mode.{Mode}
 use Rattle.automaton.specs.Limits.{stateLimit, numberLimit, letterLimit}
 use Rattle.game.specs.declared.answer.Answer.{Answer}
@@ -20,34 +21,34 @@ lent =
     (replicate {A = ℕ} (stateLimit * numberLimit) 0) (replicate {A = ℕ} stateLimit 0)
 
 -- the text is the listing of what the rule call answers on a request
-pub record Answers (i o : ℕ) (mode : Mode) (condition rule text : List ℕ) : Type 0 where
+pub record Answers (i o : ℕ) (mode : Mode) (condition rule text : Text) : Type 0 where
   pub new : Buffers
   pub answer : Answer
   pub solved : RuleSolved mode i o rule condition lent new answer
   pub listed : text ≡ listing i new answer
 
 -- the input is a request, and the text answers it
-pub record Request (input text : List ℕ) : Type 0 where
+pub record Request (input text : Text) : Type 0 where
   pub i : ℕ
   pub o : ℕ
   pub mode : Mode
-  pub condition : List ℕ
-  pub rule : List ℕ
+  pub condition : Text
+  pub rule : Text
   pub asks : Asks input i o mode condition rule
   pub answers : Answers i o mode condition rule text
 
 -- the input is no request, and the text is refusal 14
-pub record NoRequest (input text : List ℕ) : Type 0 where
-  pub none : (i o : ℕ) (mode : Mode) (condition rule : List ℕ) → Asks input i o mode condition rule → ⊥
+pub record NoRequest (input text : Text) : Type 0 where
+  pub none : (i o : ℕ) (mode : Mode) (condition rule : Text) → Asks input i o mode condition rule → ⊥
   pub refused : text ≡ malformed
 
 -- what the program prints for an input
-abbrev pub Prints : List ℕ → List ℕ → Type 0
+abbrev pub Prints : (input text : Text) → Type 0
 Prints input text = Request input text ⊎ NoRequest input text
 
 -- the listing call's promise: the output begins with the text as far as it fits, the rest of it is as it was, and r says how much of it is the text's
-pub record Listed (input output output′ : List ℕ) (r : ℕ) : Type 0 where
-  pub text : List ℕ
+pub record Listed (input output output′ : Text) (r : ℕ) : Type 0 where
+  pub text : Text
   pub prints : Prints input text
   pub written : output′ ≡ take (length output) text ++ drop (length text) output
   pub count : r ≡ min (length text) (length output)
@@ -62,10 +63,10 @@ outputSize = 8192
 
 -- the promise of the program's call: of the bytes that are lent the first `got` are the input, or all of them where `got` is larger. The first r bytes of the
 -- output are the whole text that the program prints for it, and the rest of the output is as it was
-pub record Responded (bytes : List ℕ) (got : ℕ) (output output′ : List ℕ) (r : ℕ) : Type 0 where
+pub record Responded (bytes : Text) (got : ℕ) (output output′ : Text) (r : ℕ) : Type 0 where
   pub input-size : length bytes ≡ inputSize
   pub output-size : length output ≡ outputSize
-  pub text : List ℕ
+  pub text : Text
   pub prints : Prints (take got bytes) text
   pub count : r ≡ length text
   pub whole : take r output′ ≡ text

@@ -14,8 +14,12 @@ use crate::write::put;
 use crate::write::put_decimal;
 use crate::write::put_word;
 use game::answer::Answer;
+use game::limits::NO_MOVE;
 use reader::refusal::number_of;
 use reader::refusal::place_of;
+
+// The byte of a state without a move, as a number.
+const NONE: usize = NO_MOVE as usize;
 
 // The byte at an index, or 0 past the end.
 fn byte_at(table: &[u8], k: usize) -> usize
@@ -71,7 +75,7 @@ fn put_winner(
     requires { ⌜ (s < stateLimit) × (inputs ≤ rowLimit) ⌝ }
     ensures { λ r. ⌜ Writes (now (out .entry)) at (winnerFields inputs (now (system .entry)) (now (environment .entry)) s) (now (out .exit)) r ⌝ }
 {
-    if byte_at(environment, s) == 255 {
+    if byte_at(environment, s) == NONE {
         let end = put(out, at, b'S');
         return put_fields(out, end, system, s * inputs, inputs);
     }

@@ -11,7 +11,7 @@ use lib.ListN.{length, getD}
 use Rattle.machine.specs.Letters.{Letter, Trace, Letters}
 use Rattle.machine.specs.Machine.{Machine}
 use Rattle.machine.specs.Run.{run}
-use Rattle.machine.specs.Discovery.{stateAt, position, target, states, stateCount}
+use Rattle.machine.specs.Discovery.{stateAt, position, target, states, numberOfStates}
 use Rattle.machine.specs.Automaton.{move, walk, one, Automaton}
 use Rattle.machine.specs.inner.Exploration.{Filled}
 use Rattle.machine.proofs.PositionLaws.{getD-position}
@@ -66,7 +66,7 @@ module _ {S : Type 0} (M : Machine S) (L limit n : ℕ) (pos : 0 < L) (count : n
         (λ q. g .0 (sym e ∙ q), λ x. e ∙ g .1 x)
 
     pub automaton-holds : (Good : Trace → Type 0) → Recognizes M L Good → n ≤ limit → Automaton M Good L limit n transitions accepting
-    unfolding stateCount
+    unfolding numberOfStates
     automaton-holds Good recognizes few =
         record {
           count = count;

@@ -12,7 +12,7 @@ use lib.Arith.{digits-lt, digits-div, digits-mod}
 use lib.ListN.{getD, length, length-append, List·getD-append}
 use lib.Seq.{getD-append-seam}
 use Rattle.machine.specs.Machine.{Machine}
-use Rattle.machine.specs.Discovery.{stateAt, position, target, discovered, states, stateCount}
+use Rattle.machine.specs.Discovery.{stateAt, position, target, discovered, states, numberOfStates}
 use Rattle.machine.specs.inner.Exploration.{Place, Filled, Progress, Explored, StateExplored}
 use Rattle.machine.proofs.PositionLaws.{position-any, position-absent}
 use Rattle.machine.proofs.DiscoveryLaws.{looked, looked-place, discovered-old, discovered-new, discovered-grows, discovered-stays}
@@ -108,8 +108,8 @@ module _ {S : Type 0} (M : Machine S) (L t n : ℕ) (at : ℕ → S) (transition
           }
 
       -- and where the places are as many as the limit there are too many
-      pub turn-over : (limit : ℕ) → n ≡ limit → limit < stateCount M L limit
-      unfolding states stateCount
+      pub turn-over : (limit : ℕ) → n ≡ limit → limit < numberOfStates M L limit
+      unfolding states numberOfStates
       turn-over limit full =
           let most = limit * L in
           let ws = discovered M L t in
@@ -127,7 +127,7 @@ module _ {S : Type 0} (M : Machine S) (L t n : ℕ) (at : ℕ → S) (transition
 -- after the last step the places hold all states, and the transitions are theirs
 pub explored-all : {S : Type 0} (M : Machine S) (L limit t n : ℕ) (at : ℕ → S) (transitions : List ℕ)
     → Progress M L n t at transitions → n ≤ limit → t ≡ n * L → Explored M L limit n at transitions
-unfolding states stateCount Filled
+unfolding states numberOfStates Filled
 explored-all {S} M L limit t n at transitions done few all =
     let most = limit * L in
     let c = done .count in
@@ -144,7 +144,7 @@ explored-all {S} M L limit t n at transitions done few all =
 
 -- with one state more than the limit there is nothing to say of the places and the transitions
 pub explored-many : {S : Type 0} (M : Machine S) (L limit : ℕ) (at : ℕ → S) (transitions : List ℕ)
-    → limit < stateCount M L limit → Explored M L limit (suc limit) at transitions
+    → limit < numberOfStates M L limit → Explored M L limit (suc limit) at transitions
 explored-many M L limit at transitions many =
     record { number = omega arith; members = λ q. absurd (let z : ⊥ = omega arith in z); filled = λ q. absurd (let z : ⊥ = omega arith in z) }
 

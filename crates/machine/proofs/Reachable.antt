@@ -9,7 +9,7 @@ use lib.Arith.{digits-lt, digits-div, digits-mod}
 use lib.ListN.{length, take, length-append, List·getD-append}
 use lib.Seq.{length-take-le, getD-take}
 use Rattle.machine.specs.Machine.{Machine}
-use Rattle.machine.specs.Discovery.{Reachable, begin, step, stateAt, position, target, discovered, states, stateCount, Distinct}
+use Rattle.machine.specs.Discovery.{Reachable, begin, step, stateAt, position, target, discovered, states, numberOfStates, Distinct}
 use Rattle.machine.specs.Automaton.{Numbering, TooManyStates}
 use Rattle.machine.proofs.PositionLaws.{getD-position, position-none, zero-in, Once, once-more, All, all-more}
 use Rattle.machine.proofs.DiscoveryLaws.{looked, quotient-lt, by-steps, closed, discovered-stays}
@@ -95,8 +95,8 @@ module _ {S : Type 0} (M : Machine S) (L limit : ℕ) (pos : 0 < L) where
         ap (discovered M L) (sym e) ∙ discovered-stays M L (limit * L) (more * L - limit * L) k
 
   -- the list holds each reachable state exactly once, where they are at most the limit
-  pub numbered : stateCount M L limit ≤ limit → Numbering M L (states M L limit)
-  unfolding stateCount
+  pub numbered : numberOfStates M L limit ≤ limit → Numbering M L (states M L limit)
+  unfolding numberOfStates
   numbered few =
       record {
         first = first-state M L limit;
@@ -106,8 +106,8 @@ module _ {S : Type 0} (M : Machine S) (L limit : ℕ) (pos : 0 < L) where
       }
 
   -- where they are more, its first are different and reachable, one more than the limit of them
-  pub too-many : limit < stateCount M L limit → TooManyStates M L limit
-  unfolding stateCount
+  pub too-many : limit < numberOfStates M L limit → TooManyStates M L limit
+  unfolding numberOfStates
   too-many many =
       let ws = states M L limit in
       let l = length-take-le (suc limit) ws many in

@@ -7,7 +7,7 @@ use borrow.Author.Tests.{eqb-true, eq-eqb}
 use lib.Dec.{eqb}
 use Rattle.machine.specs.Machine.{Machine}
 use Rattle.machine.specs.Run.{run}
-use Rattle.machine.specs.Discovery.{position, extend, target, look, discovered, states, stateCount}
+use Rattle.machine.specs.Discovery.{position, extend, target, look, discovered, states, numberOfStates}
 use Rattle.machine.specs.Automaton.{walk}
 
 -- the sum of the letters modulo m, accepting where it is 0
@@ -20,8 +20,8 @@ unfolding states discovered look target extend position
 sum-states = refl
 
 -- with a limit of 2 states there are more
-sum-over : stateCount (sum 3) 3 2 ≡ 3
-unfolding stateCount states discovered look target extend position
+sum-over : numberOfStates (sum 3) 3 2 ≡ 3
+unfolding numberOfStates states discovered look target extend position
 sum-over = refl
 
 -- the letters 2, 2, 1 lead to 2, by the machine and along its transitions

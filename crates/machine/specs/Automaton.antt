@@ -25,7 +25,7 @@ move transitions L s a = getD transitions (s * L + a) 0
 abbrev pub walk : (transitions : List ℕ) (L s : ℕ) (w : Trace) → ℕ
 walk transitions L s w = run (move transitions L) s w
 
--- a flag is 1 or 0
+-- a truth value as a number: a flag, or a bit
 abbrev pub one : Bool → ℕ
 one true = 1
 one false = 0

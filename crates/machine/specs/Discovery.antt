@@ -51,9 +51,9 @@ unfolding discovered
 states M L limit = discovered M L (limit * L)
 
 -- their number: that of the reachable states where it is at most the limit, and else more than the limit
-unfoldable pub stateCount : {S : Type 0} (M : Machine S) (L limit : ℕ) → ℕ
+unfoldable pub numberOfStates : {S : Type 0} (M : Machine S) (L limit : ℕ) → ℕ
 unfolding states
-stateCount M L limit = length (states M L limit)
+numberOfStates M L limit = length (states M L limit)
 
 -- the members of the list are different
 abbrev pub Distinct : {S : Type 0} (M : Machine S) → List S → Type 0

@@ -5,6 +5,7 @@ use mathlib.Core.Path.{_≡_}
 use mathlib.Core.Bool.{Bool, true, false, cond, _||_}
 use mathlib.Core.List.{List, [], _∷_, _++_}
 use lib.ListN.{length}
+use Rattle.machine.specs.Letters.{Trace}
 use Rattle.machine.specs.Run.{run}
 use Rattle.automaton.specs.Alphabet.{letterOf}
 use Rattle.plays.specs.Arena.{State, Input, Output, Arena, next, goal}
@@ -32,7 +33,7 @@ reaches G s [] = false
 reaches G s (a ∷ p) = goal G (entered G s a) || reaches G (entered G s a) p
 
 -- the play read as letters
-unfoldable pub letters : Arena → List Step → List ℕ
+unfoldable pub letters : Arena → List Step → Trace
 letters G [] = []
 letters G (a ∷ p) = letterOf (G .inputs) (a .input) (a .output) ∷ letters G p
 

@@ -13,7 +13,7 @@ use Rattle.reader.specs.Formula.{Formula, size, operators}
 use Rattle.reader.specs.Grammar.{Reads}
 use Rattle.reader.specs.Place.{IsPlace}
 
--- a text of the grammar within the limits, with the number of its nodes
+-- a text of the grammar within the limits, and its formula
 pub record IsGood (i : ℕ) (kind : ℕ → Kind) (text : Text) (φ : Formula) : Type 0 where
   pub short : length text ≤ textLimit
   pub reads : Reads i kind text φ

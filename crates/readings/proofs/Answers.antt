@@ -1,5 +1,5 @@
 -- The rule call answers each row as the specification says: its promise (game, specs/Rule.antt) leaves it no other verdict and no other n on a row that
--- is a reading.
+-- holds.
 -- Assumes nothing.
 use Prim.Native.Nat.{ℕ}
 use mathlib.Core.Path.{_≡_, refl, sym, ap₂, _∙_, subst, subst₂}
@@ -106,7 +106,7 @@ module _ (r : Row) (reading : RowHolds r) (old new : Buffers) (answer : Answer) 
       let e = verdict-is (w .0) h in
       (w .1 ∙ ap₂ verdictOf e same-count, subst (λ (can : Bool). Held r (reading .formula) (reading .assumption) old new can) e h)
 
--- every row that is a reading is answered so
+-- every row that holds is answered so
 all-answered : (rs : List Row) → All RowHolds rs → All Answered rs
 all-answered [] xs = tt
 all-answered (r ∷ rs) xs = ((λ old new answer long solved. answered r (xs .0) old new answer long solved .0), all-answered rs (xs .1))

@@ -11,7 +11,7 @@ use Rattle.automaton.specs.Limits.{stateLimit}
 use Rattle.automaton.specs.Alphabet.{badAlphabet}
 use Rattle.automaton.specs.Condition.{maskOf}
 use Rattle.machine.specs.Discovery as machine
-use Rattle.automaton.specs.Discovery.{stateCount}
+use Rattle.automaton.specs.Discovery.{numberOfStates}
 use Rattle.plays.specs.inner.Rank.{isFair}
 use Rattle.readings.specs.Lists.{transitionsOf, flagsOf}
 use Rattle.readings.specs.Row.{Row, lettersOf, arenaFor}
@@ -46,8 +46,8 @@ sizesPass φ κ = leb (size φ) nodeLimit && (leb (operators φ) operatorLimit &
 
 -- the rule has n states, and n is within the limit
 unfoldable pub countPasses : Row → Formula → Bool
-unfolding machine.stateCount
-countPasses r φ = eqb (r .count) (stateCount φ (lettersOf r)) && leb (r .count) stateLimit
+unfolding machine.numberOfStates
+countPasses r φ = eqb (r .count) (numberOfStates φ (lettersOf r)) && leb (r .count) stateLimit
 
 -- the winner's ranks are a certificate on the arena whose lists and mask are computed from the definitions
 unfoldable pub winnerPasses : Row → Certificate → Formula → Formula → Bool

@@ -1,4 +1,4 @@
--- From the test to the reading: a row with a certificate that passes (proofs/Certificate.antt) is a reading (specs/Row.antt).
+-- From the test to what a row says: a row with a certificate that passes (proofs/Certificate.antt) holds (specs/Row.antt).
 -- Assumes nothing.
 use Prim.Native.Nat.{ℕ, _+_, _^_, _≤_, _<_}
 use mathlib.Core.Path.{_≡_, refl, sym, _∙_, subst}
@@ -21,7 +21,7 @@ use Rattle.automaton.specs.Alphabet.{badAlphabet}
 use Rattle.automaton.specs.Bits.{bit}
 use Rattle.automaton.specs.Automaton.{Automaton}
 use Rattle.automaton.specs.Condition.{maskOf, Judges}
-use Rattle.automaton.specs.Discovery.{stateCount}
+use Rattle.automaton.specs.Discovery.{numberOfStates}
 use Rattle.automaton.proofs.ConditionLaws.{mask-judges}
 use Rattle.plays.specs.inner.Rank.{isFair}
 use Rattle.plays.proofs.ModeLaws.{same-mode}
@@ -92,16 +92,16 @@ module _ (r : Row) (c : Certificate) (e : passes r c ≡ true) where
       let v = and-true (leb (operators φ) operatorLimit) (leb (size κ) nodeLimit) (u .1) in
       (leb-true (size φ) nodeLimit (u .0), leb-true (operators φ) operatorLimit (v .0), leb-true (size κ) nodeLimit (v .1))
 
-  count : (r .count ≡ stateCount φ L) × (r .count ≤ stateLimit)
+  count : (r .count ≡ numberOfStates φ L) × (r .count ≤ stateLimit)
   unfolding countPasses
   count =
-      let u = and-true (eqb (r .count) (stateCount φ L)) (leb (r .count) stateLimit) (parts .3) in
-      (eqb-true (r .count) (stateCount φ L) (u .0), leb-true (r .count) stateLimit (u .1))
+      let u = and-true (eqb (r .count) (numberOfStates φ L)) (leb (r .count) stateLimit) (parts .3) in
+      (eqb-true (r .count) (numberOfStates φ L) (u .0), leb-true (r .count) stateLimit (u .1))
 
   -- the computed lists hold the automaton with the row's number of states
   pub held : Automaton φ L (r .count) (transitionsOf φ L) (flagsOf φ L)
   held =
-      let n : r .count ≡ stateCount φ L = count .0 in
+      let n : r .count ≡ numberOfStates φ L = count .0 in
       let few : r .count ≤ stateLimit = count .1 in
       subst (λ (m : ℕ). Automaton φ L m (transitionsOf φ L) (flagsOf φ L)) (sym n) (computed φ L (pow-pos (i + r .outputs)) (omega arith))
 
@@ -132,7 +132,7 @@ module _ (r : Row) (c : Certificate) (e : passes r c ≡ true) where
     start-won : VerdictOn (r .can) (r .mode) φ (arenaFor r t f m)
     start-won = verdict i (r .outputs) φ (r .count) m t f B (r .can) (r .mode) (c .table) (all-won .1 0 (all-won .0))
 
-  -- a row whose certificate passes is a reading
+  -- a row whose certificate passes holds
   pub reading : RowHolds r
   reading =
       record {

@@ -17,7 +17,7 @@ use Rattle.automaton.specs.Limits.{stateLimit}
 use Rattle.automaton.specs.Bits.{one}
 use Rattle.automaton.specs.Trace.{Satisfies}
 use Rattle.automaton.specs.State.{accepts, machineOf}
-use Rattle.automaton.specs.Discovery.{states, stateCount}
+use Rattle.automaton.specs.Discovery.{states, numberOfStates}
 use Rattle.automaton.specs.Automaton.{Automaton}
 use Rattle.automaton.proofs.Meaning.{formula-recognizes}
 use Rattle.readings.specs.Lists.{listOf, transitionsOf, flagsOf}
@@ -37,8 +37,8 @@ listOf-at f (suc n) k h =
     k (omega arith)
 
 -- the computed lists hold the automaton, where it has at most 128 states
-pub computed : (φ : Formula) (L : ℕ) → 0 < L → stateCount φ L ≤ stateLimit → Automaton φ L (stateCount φ L) (transitionsOf φ L) (flagsOf φ L)
-unfolding transitionsOf flagsOf machine.stateCount Filled
+pub computed : (φ : Formula) (L : ℕ) → 0 < L → numberOfStates φ L ≤ stateLimit → Automaton φ L (numberOfStates φ L) (transitionsOf φ L) (flagsOf φ L)
+unfolding transitionsOf flagsOf machine.numberOfStates Filled
 computed φ L pos few =
     let n = length (states φ L) in
     let M = machineOf φ in

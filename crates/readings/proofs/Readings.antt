@@ -1,4 +1,4 @@
--- The theorem: every row that the specification marks as proved is a reading. Each has a certificate, and one computation tests them all. There are
+-- The theorem: every row that the specification marks as proved holds. Each has a certificate, and one computation tests them all. There are
 -- eleven rows.
 -- Assumes nothing.
 use mathlib.Core.Path.{_≡_, refl}
@@ -11,7 +11,7 @@ use Rattle.automaton.specs.Bits.{bit, ofBits, gather}
 use Rattle.automaton.specs.Condition.{maskOf}
 use Rattle.automaton.specs.Valuation.{value, coords, ends, present, endVector, vectors}
 use Rattle.automaton.specs.State.{start, after, accepts}
-use Rattle.machine.specs.Discovery.{position, extend, target, look, discovered, states, stateCount}
+use Rattle.machine.specs.Discovery.{position, extend, target, look, discovered, states, numberOfStates}
 use Rattle.plays.specs.Arena.{next, goal, holds}
 use Rattle.readings.specs.Lists.{listOf, transitionsOf, flagsOf}
 use Rattle.readings.specs.Row.{RowHolds, All}
@@ -67,7 +67,7 @@ certificates =
 
 pub readings : All RowHolds rows
 unfolding rows certificates allPass passes passesWith alphabetPasses textsPass sizesPass countPasses winnerPasses readsBy sameBytes fits formulaOf flat winsOf stateOf bytesOf inputOf outputOf stepOf below next goal holds
-    maskOf flagsOf transitionsOf listOf stateCount states discovered look target extend position accepts after start vectors endVector present ends
+    maskOf flagsOf transitionsOf listOf numberOfStates states discovered look target extend position accepts after start vectors endVector present ends
     coords value gather ofBits bit
     withoutBlanks binaryOf unaryOf operandOf markKind amongOf isTemporalMark allowedBy kindIn operators size
 readings = all-readings rows certificates refl

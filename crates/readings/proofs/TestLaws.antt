@@ -1,5 +1,5 @@
 -- From the test (proofs/Test.antt) to the verdict: the test, computed on the lists of the definitions, holds on any lists that hold the same automaton;
--- there the ranks are those of game's proofs/PlayLaws, by which the table wins every play, and so keeps the rule.
+-- there the ranks are those of plays' proofs/RankLaws, by which the table wins every play, and so keeps the rule.
 -- Assumes nothing.
 use Prim.Native.Nat.{ℕ, zero, suc, _*_, _^_, _≤_, _<_}
 use mathlib.Core.Path.{_≡_, sym, ap₂, _∙_, subst}

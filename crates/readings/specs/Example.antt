@@ -2,10 +2,10 @@
 -- its text. proofs/PrintedExample.antt: the promise of the listing call leaves it no other text. tests/tests/readings.rs reads both lists and holds them
 -- against the specification's.
 -- Assumes nothing.
-use Prim.Native.Nat.{ℕ}
-use mathlib.Core.List.{List, [], _∷_}
+use mathlib.Core.List.{[], _∷_}
+use Rattle.reader.specs.Text.{Text}
 
-unfoldable pub exampleInput : List ℕ
+unfoldable pub exampleInput : Text
 exampleInput =
     -- 1 0
     49 ∷ 32 ∷ 48 ∷ 10
@@ -17,7 +17,7 @@ exampleInput =
     ∷ 70 ∷ 97 ∷ 10
     ∷ []
 
-unfoldable pub exampleListing : List ℕ
+unfoldable pub exampleListing : Text
 exampleListing =
     -- cannot 3
     99 ∷ 97 ∷ 110 ∷ 110 ∷ 111 ∷ 116 ∷ 32 ∷ 51 ∷ 10

@@ -7,6 +7,7 @@ use Prim.Native.Nat.{ℕ, _≤_}
 use mathlib.Core.Path.{_≡_}
 use mathlib.Core.Bool.{Bool, true, false, _||_}
 use mathlib.Core.List.{List, [], _∷_}
+use Rattle.reader.specs.Text.{Text}
 use Rattle.reader.specs.Limits.{tooLong}
 use Rattle.reader.specs.Formula.{Formula}
 use Rattle.reader.specs.Marks.{ruleKind, conditionKind}
@@ -15,12 +16,12 @@ use Rattle.automaton.specs.Limits.{stateLimit}
 use Rattle.automaton.specs.Alphabet.{badAlphabet, letterCount}
 use Rattle.automaton.specs.Automaton.{Automaton}
 use Rattle.automaton.specs.Condition.{maskOf, Judges}
-use Rattle.automaton.specs.Discovery.{stateCount}
+use Rattle.automaton.specs.Discovery.{numberOfStates}
 use Rattle.game.specs.declared.answer.Answer.{Answer}
 use Rattle.plays.specs.declared.mode.Mode.{Mode}
 use Rattle.game.specs.Answer.{verdictOf}
 use Rattle.plays.specs.Arena.{Arena, arena}
-use Rattle.plays.specs.Strategy.{SystemWins, EnvironmentWins}
+use Rattle.plays.specs.Strategy.{SystemWins, EnvironmentWins, Table}
 use Rattle.game.specs.Rule.{Can, Cannot, Buffers, shortBuffers, RuleSolved}
 use Rattle.readings.specs.Lists.{transitionsOf, flagsOf}
 
@@ -28,17 +29,17 @@ use Rattle.readings.specs.Lists.{transitionsOf, flagsOf}
 pub record Row : Type 0 where
   pub inputs : ℕ
   pub outputs : ℕ
-  pub rule : List ℕ
+  pub rule : Text
   pub mode : Mode
-  pub condition : List ℕ
+  pub condition : Text
   pub can : Bool
   pub count : ℕ
 
-abbrev pub rowOf : ℕ → ℕ → List ℕ → Mode → List ℕ → Bool → ℕ → Row
+abbrev pub rowOf : (i o : ℕ) (rule : Text) (mode : Mode) (condition : Text) (can : Bool) (n : ℕ) → Row
 rowOf i o rule mode condition can n = record { inputs = i; outputs = o; rule = rule; mode = mode; condition = condition; can = can; count = n }
 
 -- a row of the specification's list: there i = o = 1
-abbrev pub row : List ℕ → Mode → List ℕ → Bool → ℕ → Row
+abbrev pub row : (rule : Text) (mode : Mode) (condition : Text) (can : Bool) (n : ℕ) → Row
 row rule mode condition can n = rowOf 1 1 rule mode condition can n
 
 -- the number of its letters
@@ -47,11 +48,11 @@ lettersOf r = letterCount (r .inputs) (r .outputs)
 
 -- the verdict on an arena: a table of the system's that wins from the start and keeps the rule, or one of the environment's
 abbrev pub VerdictOn : Bool → Mode → Formula → Arena → Type 0
-VerdictOn true mode φ G = (σ : List ℕ) × SystemWins mode G σ 0 × Can mode φ G σ
-VerdictOn false mode φ G = (τ : List ℕ) × EnvironmentWins mode G τ 0 × Cannot mode φ G τ
+VerdictOn true mode φ G = (σ : Table) × SystemWins mode G σ 0 × Can mode φ G σ
+VerdictOn false mode φ G = (τ : Table) × EnvironmentWins mode G τ 0 × Cannot mode φ G τ
 
 -- the arena of a row: its numbers, and an automaton's lists and a mask
-abbrev pub arenaFor : Row → List ℕ → List ℕ → ℕ → Arena
+abbrev pub arenaFor : (r : Row) (transitions flags : List ℕ) (mask : ℕ) → Arena
 arenaFor r transitions flags mask = arena (r .inputs) (r .outputs) (r .count) transitions flags mask
 
 -- what the row says: i and o are in range, its texts are good and within all limits, the rule has n states, and the verdict holds on the rule's automaton:
@@ -64,7 +65,7 @@ pub record RowHolds (r : Row) : Type 0 where
   pub assumed : IsGood (r .inputs) (conditionKind (r .inputs)) (r .condition) assumption
   pub judges : Judges assumption (r .inputs) (maskOf assumption (r .inputs))
   pub short : (tooLong (r .rule) || tooLong (r .condition)) ≡ false
-  pub counted : r .count ≡ stateCount formula (lettersOf r)
+  pub counted : r .count ≡ numberOfStates formula (lettersOf r)
   pub few : r .count ≤ stateLimit
   pub automaton : Automaton formula (lettersOf r) (r .count) (transitionsOf formula (lettersOf r)) (flagsOf formula (lettersOf r))
   pub verdict :

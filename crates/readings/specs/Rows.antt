@@ -1,4 +1,4 @@
--- The rows that the specification ("Readings") marks as proved, each under its texts in letters. proofs/Readings.antt: every row is a reading.
+-- The rows that the specification ("Readings") marks as proved, each under its texts in letters. proofs/Readings.antt: every row holds.
 -- proofs/Answers.antt: so the rule call's promise leaves it no other answer to them. tests/tests/readings.rs reads this list and holds it against the
 -- specification's.
 -- Assumes nothing.

@@ -10,7 +10,7 @@ use lib.ListN.{getD}
 use Rattle.machine.specs.Letters.{Letter}
 use Rattle.reader.specs.Formula.{Formula, next, weak, always, release, operators}
 use Rattle.reader.specs.inner.Nodes.{unaryCode, binaryCode}
-use Rattle.automaton.specs.Limits.{vectorLimit}
+use Rattle.automaton.specs.inner.Sizes.{vectorLimit}
 use Rattle.automaton.specs.Bits.{bit, one, ofBits}
 use Rattle.automaton.specs.Valuation.{present}
 use Rattle.automaton.specs.inner.Nodes.{nodeKind, argumentOf}

@@ -10,7 +10,7 @@ use lib.ListN.{getD}
 use Rattle.machine.specs.Letters.{Letter}
 use Rattle.reader.specs.Formula.{Formula, neg, next, weak, eventually, always, until, release, conj, disj}
 use Rattle.reader.specs.inner.Nodes.{constantCode, nameCode, unaryCode, binaryCode}
-use Rattle.automaton.specs.Limits.{vectorLimit}
+use Rattle.automaton.specs.inner.Sizes.{vectorLimit}
 use Rattle.automaton.specs.Bits.{bit, ofBits}
 use Rattle.automaton.specs.Valuation.{value}
 use Rattle.automaton.specs.inner.Nodes.{Node}

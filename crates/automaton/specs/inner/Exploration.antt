@@ -9,7 +9,7 @@ use Rattle.machine.specs.inner.Exploration as machine
 use Rattle.reader.specs.Formula.{Formula}
 use Rattle.automaton.specs.Limits.{stateLimit}
 use Rattle.automaton.specs.State.{machineOf}
-use Rattle.automaton.specs.Discovery.{stateCount}
+use Rattle.automaton.specs.Discovery.{numberOfStates}
 use Rattle.automaton.specs.Automaton.{Automaton, TooManyStates}
 use Rattle.automaton.specs.Buffer.{Cleared}
 
@@ -31,14 +31,14 @@ StateExplored φ L s r list transitions = machine.StateExplored (machineOf φ) L
 
 -- the buffers where the formula has no more states than the limit: its automaton, 0 up to the limit's share, and beyond as they were
 pub record WithinLimit (φ : Formula) (L r : ℕ) (transitions accepting transitions′ accepting′ : List ℕ) : Type 0 where
-  pub count : r ≡ stateCount φ L
+  pub count : r ≡ numberOfStates φ L
   pub automaton : Automaton φ L r transitions′ accepting′
   pub transitions-rest : Cleared (r * L) (stateLimit * L) transitions transitions′
   pub accepting-rest : Cleared r stateLimit accepting accepting′
 
 -- the buffers where it has more: the transitions' share is 0
 pub record BeyondLimit (φ : Formula) (L : ℕ) (transitions accepting transitions′ accepting′ : List ℕ) : Type 0 where
-  pub count : stateLimit < stateCount φ L
+  pub count : stateLimit < numberOfStates φ L
   pub many : TooManyStates φ L
   pub cleared : Cleared 0 (stateLimit * L) transitions transitions′
   pub untouched : accepting′ ≡ accepting

@@ -7,7 +7,7 @@ use lib.ListN.{getD}
 use Rattle.reader.specs.Limits.{nodeLimit, operatorLimit}
 use Rattle.reader.specs.Formula.{Formula, size, operators}
 use Rattle.reader.specs.inner.Nodes.{nodesOf}
-use Rattle.automaton.specs.Limits.{pairLimit}
+use Rattle.automaton.specs.inner.Sizes.{pairLimit}
 use Rattle.automaton.specs.Valuation.{present, vectors}
 
 -- the first m words of the buffer are the nodes of the formula, which is within the limits

@@ -27,6 +27,6 @@ airtable-solve-rule-spec =
       solved = rw (sym (m .mode-at .ensures)) (s .solve-rule .ensures);
       number-of = c .answer-number .ensures;
       can-of = c .before .before .before .can-flag .ensures;
-      n-of = c .before .before .state-count .ensures;
+      n-of = c .before .before .states-of .ensures;
       place-of = c .before .answer-place .ensures;
     }))

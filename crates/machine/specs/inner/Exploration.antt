@@ -6,7 +6,7 @@ use mathlib.Core.Path.{_≡_}
 use mathlib.Core.List.{List}
 use lib.ListN.{length, getD}
 use Rattle.machine.specs.Machine.{Machine}
-use Rattle.machine.specs.Discovery.{stateAt, position, target, discovered, states, stateCount}
+use Rattle.machine.specs.Discovery.{stateAt, position, target, discovered, states, numberOfStates}
 
 -- p is a place of x among the first n, or n where it has none
 pub record Place {S : Type 0} (at : ℕ → S) (n : ℕ) (x : S) (p : ℕ) : Type 0 where
@@ -26,7 +26,7 @@ pub record Progress {S : Type 0} (M : Machine S) (L n t : ℕ) (at : ℕ → S) 
 
 -- the exploration found r states, or more than the limit where r is one more than that; the places hold them, and the transitions are theirs
 pub record Explored {S : Type 0} (M : Machine S) (L limit r : ℕ) (at : ℕ → S) (transitions : List ℕ) : Type 0 where
-  pub number : r ≡ min (suc limit) (stateCount M L limit)
+  pub number : r ≡ min (suc limit) (numberOfStates M L limit)
   pub members : r ≤ limit → (i : ℕ) → i < r → at i ≡ stateAt M (states M L limit) i
   pub filled : r ≤ limit → Filled M L (states M L limit) transitions (r * L)
 

@@ -7,7 +7,7 @@ use Prim.Native.Nat.{ℕ, suc, _+_, _≤_}
 use native.Mathlib.Omega.{arith}
 use Rattle.reader.specs.Limits.{nodeLimit}
 use Rattle.reader.specs.Formula.{Formula, operators}
-use Rattle.automaton.specs.Limits.{coordinateLimit}
+use Rattle.automaton.specs.inner.Sizes.{coordinateLimit}
 use Rattle.automaton.specs.inner.Representation.{Represents}
 use Rattle.automaton.proofs.construct.build_nodes.Statement.{statement}
 use Rattle.automaton.proofs.construct.build_nodes.Tie as tie

@@ -6,7 +6,7 @@ use Prim.Native.Nat.{ℕ}
 use lib.Dec.{eqb, eqb→eq}
 use lib.ListN.{getD}
 use borrow.Author.Needs.{needs}
-use Rattle.automaton.specs.Limits.{vectorLimit}
+use Rattle.automaton.specs.inner.Sizes.{vectorLimit}
 use Rattle.automaton.specs.Bits.{bit, ofBits}
 use Rattle.automaton.proofs.TableLaws.{at}
 use Rattle.automaton.proofs.BitLaws.{no-coordinate}

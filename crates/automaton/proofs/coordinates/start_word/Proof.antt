@@ -3,8 +3,8 @@ use Prim.Native.Nat.{ℕ, _%_, _<_}
 use native.Mathlib.Omega.{arith}
 use lib.Pow.{pow-pos}
 use mathlib.Core.Path.{_≡_, sym, ap, ap₂, _∙_}
-use Rattle.automaton.specs.Limits.{vectorLimit}
-use Rattle.automaton.specs.Bits.{wordBits, bit, ofBits}
+use Rattle.automaton.specs.Bits.{bit, ofBits}
+use Rattle.automaton.specs.inner.Sizes.{vectorLimit, wordBits}
 use Rattle.automaton.proofs.BitLaws.{ofBits-mod, bit-shifted}
 use borrow.Author.Needs.{needs}
 use Rattle.automaton.proofs.coordinates.start_word.Statement.{statement}

@@ -1,6 +1,6 @@
 -- `automaton::evaluate::name_word` meets its contract: every bit is the letter's one. Assumes nothing.
 use mathlib.Core.Path.{sym, _∙_}
-use Rattle.automaton.specs.Bits.{wordBits}
+use Rattle.automaton.specs.inner.Sizes.{wordBits}
 use Rattle.automaton.proofs.BitLaws.{bit-high, same-true, same-false, one-true, one-false}
 use borrow.Author.Needs.{needs}
 use Rattle.automaton.proofs.evaluate.name_word.Statement.{statement}

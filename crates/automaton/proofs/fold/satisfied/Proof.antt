@@ -7,7 +7,7 @@ use lib.ListN.{getD, length, drop}
 use lib.Dec.{eqb}
 use lib.Seq.{drop-length}
 use Rattle.reader.specs.Formula.{Formula, operators}
-use Rattle.automaton.specs.Limits.{vectorLimit}
+use Rattle.automaton.specs.inner.Sizes.{vectorLimit}
 use Rattle.automaton.specs.Bits.{bit}
 use Rattle.automaton.specs.Valuation.{present}
 use Rattle.automaton.specs.inner.Representation.{Represents}

@@ -5,7 +5,7 @@ use mathlib.Core.Path.{_≡_, refl, _∙_}
 use Prim.Native.Nat.{ℕ, suc, _+_, _-_, _*_, _≤_, _<_}
 use lib.ListN.{getD, length}
 use Rattle.reader.specs.Formula.{Formula, operators}
-use Rattle.automaton.specs.Limits.{pairLimit}
+use Rattle.automaton.specs.inner.Sizes.{pairLimit}
 use Rattle.automaton.specs.Valuation.{present}
 use Rattle.automaton.specs.inner.Representation.{Represents}
 use Rattle.automaton.proofs.CoordinateLaws.{present-from}

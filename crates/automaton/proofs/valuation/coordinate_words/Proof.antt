@@ -5,7 +5,7 @@ use mathlib.Core.Path.{_≡_, refl, ap, _∙_}
 use Prim.Native.Nat.{ℕ, _-_, _≤_, _<_}
 use lib.ListN.{getD, length, length-set}
 use native.Mathlib.Nat.{not-suc-le-zero}
-use Rattle.automaton.specs.Limits.{coordinateLimit}
+use Rattle.automaton.specs.inner.Sizes.{coordinateLimit}
 use Rattle.automaton.specs.inner.Coordinates.{owner}
 use Rattle.automaton.proofs.ArrayLaws.{stored-more}
 use borrow.Author.Needs.{needs}

@@ -46,8 +46,10 @@ read-represents i o t text nodes ρ n e a b =
 -- every text has a count of states: its formula's, or any where it has none within the limits
 pub count-of : (i o : ℕ) (text : List ℕ) (ρ : Reading) → ReadingOf i (ruleKind i o) text ρ → (n : ℕ) × CountOf i o text n
 unfolding ReadingOf
-count-of i o text (Good n) r =
-    (numberOfStates (r .0) (letterCount i o), λ φ g. ap (λ (ψ : Formula). numberOfStates ψ (letterCount i o)) (one-formula i o true text (r .1 .reads) (g .reads)))
+count-of i o text (Good n) r = (
+  numberOfStates (r .0) (letterCount i o),
+  λ φ g. ap (λ (ψ : Formula). numberOfStates ψ (letterCount i o)) (one-formula i o true text (r .1 .reads) (g .reads)),
+)
 count-of i o text TooLong r = (0, λ φ g. let h = g .short in let z : ⊥ = omega (arith, r) in absurd z)
 count-of i o text (Bad k) r = (0, λ φ g. absurd (never-both i o true text (g .reads) (r .1)))
 count-of i o text TooManyNodes r =

@@ -49,7 +49,8 @@ pub extern "C" fn airtable_solve_rule(
 ) -> u8
     ensures { λ r. ⌜ RuleWritten (modeAt mode) i o (now (rule .entry)) (now (condition .entry))
         (buffers (now (moves .entry)) (now (marks .entry)) (now (station .entry)) (now (outside .entry)))
-        (buffers (now (moves .exit)) (now (marks .exit)) (now (station .exit)) (now (outside .exit))) r (now (can .exit)) (now (n .exit)) (now (place .exit)) ⌝ }
+        (buffers (now (moves .exit)) (now (marks .exit)) (now (station .exit)) (now (outside .exit)))
+        r (now (can .exit)) (now (n .exit)) (now (place .exit)) ⌝ }
 {
     let answer = solve_rule(
         i,

@@ -66,7 +66,8 @@ certificates =
     ∷ []
 
 pub readings : All RowHolds rows
-unfolding rows certificates allPass passes passesWith alphabetPasses textsPass sizesPass countPasses winnerPasses readsBy sameBytes fits formulaOf flat winsOf stateOf bytesOf inputOf outputOf stepOf below next goal holds
+unfolding rows certificates allPass passes passesWith alphabetPasses textsPass sizesPass countPasses winnerPasses readsBy sameBytes fits formulaOf
+    flat winsOf stateOf bytesOf inputOf outputOf stepOf below next goal holds
     maskOf flagsOf transitionsOf listOf numberOfStates states discovered look target extend position accepts after start vectors endVector present ends
     coords value gather ofBits bit
     withoutBlanks binaryOf unaryOf operandOf markKind amongOf isTemporalMark allowedBy kindIn operators size

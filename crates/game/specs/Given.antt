@@ -19,7 +19,7 @@ use Rattle.plays.specs.Arena.{Arena}
 use Rattle.plays.specs.Strategy.{Table}
 use Rattle.game.specs.Tables.{Tables, Verdict}
 
--- refusal 10: no states, or more than 128
+-- refusal 10: no states, or more than the limit
 abbrev pub badCount : ℕ → Bool
 badCount n = eqb n 0 || ltb stateLimit n
 
@@ -31,7 +31,7 @@ moveCount G = G .states * (G .inputs * G .outputs)
 abbrev pub shortRead : Arena → Bool
 shortRead G = ltb (length (G .transitions)) (moveCount G) || ltb (length (G .accepting)) (G .states)
 
--- refusal 3, for the tables: 128 states' share
+-- refusal 3, for the tables: the share of as many states as the limit
 abbrev pub shortTables : Arena → Table → Table → Bool
 shortTables G σ τ = ltb (length σ) (stateLimit * G .inputs) || ltb (length τ) stateLimit
 

@@ -59,7 +59,7 @@ pub record Buffers : Type 0 where
 abbrev pub buffers : (t a : List ℕ) (σ τ : Table) → Buffers
 buffers t a σ τ = record { transitions = t; accepting = a; system = σ; environment = τ }
 
--- refusal 3: a buffer is too short for 128 states
+-- refusal 3: a buffer is too short for as many states as the limit
 abbrev pub shortBuffers : ℕ → ℕ → Buffers → Bool
 shortBuffers i o old =
     shortAutomaton (letterCount i o) (old .transitions) (old .accepting)

@@ -1,5 +1,5 @@
 -- The two tables that are handed out (specification, "Calls"): every state below n is won by one player, the other player's bytes there are 255,
--- from n up to 128 states all bytes are 255, and bytes beyond are as they were.
+-- from n up to the limit on states all bytes are 255, and bytes beyond are as they were.
 -- Assumes nothing.
 use Prim.Native.Nat.{ℕ, _*_, _<_, _≤_}
 use mathlib.Core.Path.{_≡_}

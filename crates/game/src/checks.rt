@@ -12,7 +12,7 @@ use automaton::alphabet::power;
 use automaton::limits::STATE_LIMIT;
 use plays::mode::Mode;
 
-// Whether there are no states or more than 128.
+// Whether there are no states, or more than the limit.
 pub(crate) fn bad_count(n: usize) -> bool
     ensures { λ r. ⌜ r ≡ badCount n ⌝ }
 {

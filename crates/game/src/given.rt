@@ -22,7 +22,7 @@ use automaton::limits::STATE_LIMIT;
 use plays::mode::Mode;
 use reader::refusal::Refusal;
 
-// Whether a table is too short for 128 states.
+// Whether a table is too short for as many states as the limit.
 fn short_tables(sizes: Sizes, system: &[u8], environment: &[u8]) -> bool
     requires { ⌜ InRange sizes ⌝ }
     ensures { λ r. ⌜ r ≡ shortTables (arenaAt sizes [] [] 0) (now (system .entry)) (now (environment .entry)) ⌝ }

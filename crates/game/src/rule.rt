@@ -29,7 +29,7 @@ pub struct Checked {
     pub mask: u16,
 }
 
-// Whether one of the four buffers is too short for 128 states.
+// Whether one of the four buffers is too short for as many states as the limit.
 fn short_buffers(
     i: usize,
     o: usize,

@@ -121,7 +121,7 @@ fn is_safe(
     first_stop(g, transitions, accepting, ranks, most, false, s, x) == g.outputs
 }
 
-// The system's byte for state s and input x: 255 where the system does not win from s.
+// The system's byte for state s and input x: NO_MOVE where the system does not win from s.
 fn system_byte(
     g: Game,
     transitions: &[u8],
@@ -173,7 +173,7 @@ fn first_input(
     x
 }
 
-// The environment's byte for state s: 255 where the environment does not win from s.
+// The environment's byte for state s: NO_MOVE where the environment does not win from s.
 fn environment_byte(
     g: Game,
     transitions: &[u8],
@@ -194,7 +194,7 @@ fn environment_byte(
     x as u8
 }
 
-// Fills the system's table for 128 states.
+// Fills the system's table, for as many states as the limit.
 fn fill_system(
     g: Game,
     transitions: &[u8],
@@ -219,7 +219,7 @@ fn fill_system(
     }
 }
 
-// Fills the environment's table for 128 states.
+// Fills the environment's table, for as many states as the limit.
 fn fill_environment(
     g: Game,
     transitions: &[u8],

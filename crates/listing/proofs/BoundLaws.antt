@@ -1,4 +1,4 @@
--- What the program prints has at most 8,192 bytes, so that an output of that size holds the whole of it.
+-- What the program prints has at most `outputSize` bytes, so that an output of that size holds the whole of it.
 -- Assumes nothing.
 use Prim.Native.Nat.{ℕ, _^_, _≤_, _<_}
 use mathlib.Core.Path.{_≡_, refl, sym, ap, subst, _∙_}
@@ -130,7 +130,7 @@ module _ {mode : Mode} {i o : ℕ} {rule condition : List ℕ} {old new : Buffer
       subst (λ (x : Answer). length (listing i new x) ≤ outputSize) (sym e)
       (refusal-length (numberOf (m .refusal)) (placeOf (m .refusal)) (number-small (m .refusal)) refusal-place))
 
--- what the program prints has at most 8,192 bytes
+-- what the program prints is no longer than its output
 pub prints-length : {input text : List ℕ} → Prints input text → length text ≤ outputSize
 prints-length {input} {text} p =
     ⊎-elim

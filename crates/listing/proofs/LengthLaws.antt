@@ -1,4 +1,5 @@
--- No listing is over 8,192 bytes: a state's line has at most 56, since its number is below 128 and each of its at most 16 bytes below 16.
+-- No listing is longer than `outputSize`: a state's line has at most 56 bytes, since its number has at most three digits, and each of the at most 16 bytes of
+-- its row at most two.
 -- Assumes nothing.
 use Prim.Native.Nat.{ℕ, zero, suc, _+_, _-_, _*_, _/_, _%_, _≤_, _<_}
 use mathlib.Core.Path.{_≡_, ap, subst, _∙_}

@@ -1,4 +1,4 @@
--- The promise from its parts (specs/Promise.antt): a refusal by 14, and the listing of the rule call's answer; an answer has at most 128 states.
+-- The promise from its parts (specs/Promise.antt): a refusal by 14, and the listing of the rule call's answer; an answer has no more states than the limit.
 -- Assumes nothing.
 use Prim.Native.Nat.{ℕ, _+_, _-_, _≤_, min}
 use mathlib.Core.Path.{_≡_, refl, sym, ap, subst, _∙_}
@@ -75,7 +75,7 @@ served-states i o rule condition old ρ κ n e =
     (λ t. absurd (over-refused (badAlphabet i o) (tooLong rule || tooLong condition) (shortBuffers i o old) ρ κ (rw t at e)))
     (λ f. ltb-false stateLimit n f)
 
--- an answer has at most 128 states
+-- an answer has no more states than the limit
 pub solved-states : {mode : Mode} {i o : ℕ} {rule condition : List ℕ} {old new : Buffers} {r : Answer} → RuleSolved mode i o rule condition old new r
     → answerStates r ≤ stateLimit
 solved-states {mode} {i} {o} {rule} {condition} {old} {new} {r} m =

@@ -36,7 +36,7 @@ listOf-at f (suc n) k h =
     (subst (λ (j : ℕ). getD (listOf f n ++ (f n ∷ [])) j 0 ≡ f n) (listOf-length f n) (getD-append-seam (listOf f n) (f n) [] 0))
     k (omega arith)
 
--- the computed lists hold the automaton, where it has at most 128 states
+-- the computed lists hold the automaton, where it has no more states than the limit
 pub computed : (φ : Formula) (L : ℕ) → 0 < L → numberOfStates φ L ≤ stateLimit → Automaton φ L (numberOfStates φ L) (transitionsOf φ L) (flagsOf φ L)
 unfolding transitionsOf flagsOf machine.numberOfStates Filled
 computed φ L pos few =

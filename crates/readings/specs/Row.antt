@@ -47,7 +47,7 @@ abbrev pub lettersOf : Row → ℕ
 lettersOf r = letterCount (r .inputs) (r .outputs)
 
 -- the verdict on an arena: a table of the system's that wins from the start and keeps the rule, or one of the environment's
-abbrev pub VerdictOn : Bool → Mode → Formula → Arena → Type 0
+abbrev pub VerdictOn : (can : Bool) (mode : Mode) (φ : Formula) (G : Arena) → Type 0
 VerdictOn true mode φ G = (σ : Table) × SystemWins mode G σ 0 × Can mode φ G σ
 VerdictOn false mode φ G = (τ : Table) × EnvironmentWins mode G τ 0 × Cannot mode φ G τ
 
@@ -73,7 +73,7 @@ pub record RowHolds (r : Row) : Type 0 where
       → VerdictOn (r .can) (r .mode) formula (arenaFor r transitions flags mask)
 
 -- the rule call's promise for the row's texts
-abbrev pub SolvedFor : Row → Buffers → Buffers → Answer → Type 0
+abbrev pub SolvedFor : (r : Row) (old new : Buffers) (answer : Answer) → Type 0
 SolvedFor r old new answer = RuleSolved (r .mode) (r .inputs) (r .outputs) (r .rule) (r .condition) old new answer
 
 -- what that promise makes of the row: in buffers that are long enough it answers with this verdict and this n

@@ -33,7 +33,7 @@ use Rattle.listing.specs.Input.{Line, Asks}
 use Rattle.listing.specs.Listing.{stateLines, verdictLines, listing}
 use Rattle.listing.specs.Promise.{lent, Answers, Prints, Listed, Responded}
 use Rattle.listing.proofs.RequestLaws.{one-request}
-use Rattle.readings.specs.Lists.{listOf, transitionsOf, flagsOf}
+use Rattle.readings.specs.Lists.{listOf, transitionsOn, transitionsOf, flagsOn, flagsOf}
 use Rattle.readings.specs.Row.{Row, rowOf, arenaFor}
 use Rattle.readings.specs.Example.{exampleInput, exampleListing}
 use Rattle.readings.proofs.Tree.{single, prefixed, flat, formulaOf, fits, sameBytes, readsBy}
@@ -57,7 +57,7 @@ never = certificate (prefixed 70 (single 97)) (single 49) (0 ∷ 0 ∷ []) (1 �
 passed : passes example never ≡ true
 unfolding passes passesWith alphabetPasses textsPass sizesPass countPasses winnerPasses readsBy sameBytes fits formulaOf flat winsOf stateOf bytesOf
     inputOf outputOf stepOf below next goal holds
-    maskOf flagsOf transitionsOf listOf numberOfStates states discovered look target extend position accepts after start vectors endVector present ends
+    maskOf flagsOf flagsOn transitionsOf transitionsOn listOf numberOfStates states discovered look target extend position accepts after start vectors endVector present ends
     coords value gather ofBits bit
     withoutBlanks binaryOf unaryOf operandOf markKind amongOf isTemporalMark allowedBy kindIn operators size
 passed = refl
@@ -70,13 +70,13 @@ abbrev κ : Formula
 
 -- the automaton has three states: input 1 leads to state 2, which is a goal and is not left, and input 0 to state 1
 transitions-are : transitionsOf φ 2 ≡ 1 ∷ 2 ∷ 1 ∷ 2 ∷ 2 ∷ 2 ∷ []
-unfolding formulaOf transitionsOf listOf numberOfStates states discovered look target extend position after start vectors present ends coords value
+unfolding formulaOf transitionsOf transitionsOn listOf numberOfStates states discovered look target extend position after start vectors present ends coords value
     gather ofBits bit
     unaryOf operandOf operators
 transitions-are = refl
 
 flags-are : flagsOf φ 2 ≡ 0 ∷ 0 ∷ 1 ∷ []
-unfolding formulaOf flagsOf listOf numberOfStates states discovered look target extend position accepts after start vectors endVector present ends
+unfolding formulaOf flagsOf flagsOn listOf numberOfStates states discovered look target extend position accepts after start vectors endVector present ends
     coords value gather ofBits bit
     unaryOf operandOf operators
 flags-are = refl

@@ -13,7 +13,7 @@ use Rattle.automaton.specs.Valuation.{value, coords, ends, present, endVector, 
 use Rattle.automaton.specs.State.{start, after, accepts}
 use Rattle.machine.specs.Discovery.{position, extend, target, look, discovered, states, numberOfStates}
 use Rattle.plays.specs.Arena.{next, goal, holds}
-use Rattle.readings.specs.Lists.{listOf, transitionsOf, flagsOf}
+use Rattle.readings.specs.Lists.{listOf, transitionsOn, transitionsOf, flagsOn, flagsOf}
 use Rattle.readings.specs.Row.{RowHolds, All}
 use Rattle.readings.specs.Rows.{rows}
 use Rattle.readings.proofs.Tree.{Tree, single, prefixed, grouped, joined, flat, formulaOf, fits, sameBytes, readsBy}
@@ -68,7 +68,7 @@ certificates =
 pub readings : All RowHolds rows
 unfolding rows certificates allPass passes passesWith alphabetPasses textsPass sizesPass countPasses winnerPasses readsBy sameBytes fits formulaOf
     flat winsOf stateOf bytesOf inputOf outputOf stepOf below next goal holds
-    maskOf flagsOf transitionsOf listOf numberOfStates states discovered look target extend position accepts after start vectors endVector present ends
+    maskOf flagsOf flagsOn transitionsOf transitionsOn listOf numberOfStates states discovered look target extend position accepts after start vectors endVector present ends
     coords value gather ofBits bit
     withoutBlanks binaryOf unaryOf operandOf markKind amongOf isTemporalMark allowedBy kindIn operators size
 readings = all-readings rows certificates refl

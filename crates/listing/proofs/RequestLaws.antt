@@ -16,7 +16,8 @@ use Rattle.plays.specs.inner.Rank.{isFair, modeOf}
 use Rattle.plays.proofs.ModeLaws.{same-mode}
 use Rattle.listing.specs.Decimal.{digit}
 use Rattle.listing.specs.Input.{newline, blank, inputLimit, fairWord, stableWord, modeWord, Line, Asks}
-use Rattle.listing.specs.inner.Scan.{lineLength, beginsWith, isDigit, digitLine, isFairLine, isStableLine, modeIn, lineEnd, conditionStart, ruleStart, ruleEnd, hasTexts, hasMode, isRequest, conditionPart, rulePart, digitAt}
+use Rattle.listing.specs.inner.Scan.{lineLength, beginsWith, isDigit, digitLine, isFairLine, isStableLine, modeIn, lineEnd, conditionStart}
+use Rattle.listing.specs.inner.Scan.{ruleStart, ruleEnd, hasTexts, hasMode, isRequest, conditionPart, rulePart, digitAt}
 use Rattle.listing.proofs.ScanLaws.{line-split, line-line, line-found, begins-split, begins-length, end-within}
 
 both : (a b : Bool) → a ≡ true → b ≡ true → (a && b) ≡ true

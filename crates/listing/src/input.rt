@@ -3,7 +3,8 @@ ghost use mathlib.Core.Path.{_≡_};
 ghost use mathlib.Core.Bool.{true, cond};
 ghost use Prim.Native.Nat.{_≤_, _<_};
 ghost use lib.ListN.{length, getD, drop};
-ghost use Rattle.listing.specs.inner.Scan.{beginsWith, lineEnd, isDigit, digitAt, digitLine, isFairLine, isStableLine, modeIn, conditionStart, hasTexts, isRequest};
+ghost use Rattle.listing.specs.inner.Scan.{beginsWith, lineEnd, isDigit, digitAt, digitLine, isFairLine};
+ghost use Rattle.listing.specs.inner.Scan.{isStableLine, modeIn, conditionStart, hasTexts, isRequest};
 use crate::limits::INPUT_LIMIT;
 use plays::mode::Mode;
 

@@ -55,11 +55,10 @@ never = certificate (prefixed 70 (single 97)) (single 49) (0 ∷ 0 ∷ []) (1 �
 
 -- the row's certificate passes
 passed : passes example never ≡ true
-unfolding passes passesWith alphabetPasses textsPass sizesPass countPasses winnerPasses readsBy sameBytes fits formulaOf flat winsOf stateOf bytesOf
-    inputOf outputOf stepOf below next goal holds
-    maskOf flagsOf flagsOn transitionsOf transitionsOn listOf numberOfStates states discovered look target extend position accepts after start vectors endVector present ends
-    coords value gather ofBits bit
-    withoutBlanks binaryOf unaryOf operandOf markKind amongOf isTemporalMark allowedBy kindIn operators size
+unfolding passes passesWith alphabetPasses textsPass sizesPass countPasses winnerPasses readsBy sameBytes fits formulaOf flat winsOf stateOf
+    bytesOf inputOf outputOf stepOf below next goal holds maskOf flagsOf flagsOn transitionsOf transitionsOn listOf numberOfStates states discovered
+    look target extend position accepts after start vectors endVector present ends coords value gather ofBits bit withoutBlanks binaryOf unaryOf
+    operandOf markKind amongOf isTemporalMark allowedBy kindIn operators size
 passed = refl
 
 abbrev φ : Formula
@@ -70,15 +69,13 @@ abbrev κ : Formula
 
 -- the automaton has three states: input 1 leads to state 2, which is a goal and is not left, and input 0 to state 1
 transitions-are : transitionsOf φ 2 ≡ 1 ∷ 2 ∷ 1 ∷ 2 ∷ 2 ∷ 2 ∷ []
-unfolding formulaOf transitionsOf transitionsOn listOf numberOfStates states discovered look target extend position after start vectors present ends coords value
-    gather ofBits bit
-    unaryOf operandOf operators
+unfolding formulaOf transitionsOf transitionsOn listOf numberOfStates states discovered look target extend position after start vectors present
+    ends coords value gather ofBits bit unaryOf operandOf operators
 transitions-are = refl
 
 flags-are : flagsOf φ 2 ≡ 0 ∷ 0 ∷ 1 ∷ []
-unfolding formulaOf flagsOf flagsOn listOf numberOfStates states discovered look target extend position accepts after start vectors endVector present ends
-    coords value gather ofBits bit
-    unaryOf operandOf operators
+unfolding formulaOf flagsOf flagsOn listOf numberOfStates states discovered look target extend position accepts after start vectors endVector
+    present ends coords value gather ofBits bit unaryOf operandOf operators
 flags-are = refl
 
 -- what a served call leaves in the buffers

@@ -18,7 +18,8 @@ use Rattle.readings.specs.Row.{RowHolds, All}
 use Rattle.readings.specs.Rows.{rows}
 use Rattle.readings.proofs.Tree.{Tree, single, prefixed, grouped, joined, flat, formulaOf, fits, sameBytes, readsBy}
 use Rattle.readings.proofs.Test.{below, stepOf, outputOf, inputOf, bytesOf, stateOf, winsOf}
-use Rattle.readings.proofs.Certificate.{Certificate, certificate, alphabetPasses, textsPass, sizesPass, countPasses, winnerPasses, passesWith, passes, allPass}
+use Rattle.readings.proofs.Certificate.{Certificate, certificate, alphabetPasses, textsPass, sizesPass}
+use Rattle.readings.proofs.Certificate.{countPasses, winnerPasses, passesWith, passes, allPass}
 use Rattle.readings.proofs.CertificateLaws.{all-readings}
 
 -- 0 and 1, and the names a and p
@@ -67,10 +68,9 @@ certificates =
 
 pub readings : All RowHolds rows
 unfolding rows certificates allPass passes passesWith alphabetPasses textsPass sizesPass countPasses winnerPasses readsBy sameBytes fits formulaOf
-    flat winsOf stateOf bytesOf inputOf outputOf stepOf below next goal holds
-    maskOf flagsOf flagsOn transitionsOf transitionsOn listOf numberOfStates states discovered look target extend position accepts after start vectors endVector present ends
-    coords value gather ofBits bit
-    withoutBlanks binaryOf unaryOf operandOf markKind amongOf isTemporalMark allowedBy kindIn operators size
+    flat winsOf stateOf bytesOf inputOf outputOf stepOf below next goal holds maskOf flagsOf flagsOn transitionsOf transitionsOn listOf numberOfStates
+    states discovered look target extend position accepts after start vectors endVector present ends coords value gather ofBits bit withoutBlanks
+    binaryOf unaryOf operandOf markKind amongOf isTemporalMark allowedBy kindIn operators size
 readings = all-readings rows certificates refl
 
 -- as many as the specification marks

@@ -34,11 +34,11 @@ pub record Texts (i o : ℕ) (rule condition : Text) : Type 0 where
 abbrev pub arenaLeft : (i o n : ℕ) (new : Buffers) (κ : Formula) → Arena
 arenaLeft i o n new κ = arena i o n (new .transitions) (new .accepting) (maskOf κ i)
 
--- the rule call's answer: on "can" and on "cannot", in terms of beginnings that satisfy the rule
+-- the rule call's answer: on "can", by the step that its round number says, and on "cannot", in terms of beginnings that satisfy the rule
 abbrev pub RuleEndless : (mode : Mode) (i o : ℕ) (rule condition : Text) (new : Buffers) (r : Answer) → Type 0
-RuleEndless mode i o rule condition new (Can n) =
+RuleEndless mode i o rule condition new (Can n k) =
     (t : Texts i o rule condition)
-    × CanEndless mode (arenaLeft i o n new (t .assumption)) (new .system) 0 (Satisfying (t .formula) (arenaLeft i o n new (t .assumption)))
+    × CanEndless mode (arenaLeft i o n new (t .assumption)) k (new .system) 0 (Satisfying (t .formula) (arenaLeft i o n new (t .assumption)))
 RuleEndless mode i o rule condition new (Cannot n) =
     (t : Texts i o rule condition)
     × CannotEndless mode (arenaLeft i o n new (t .assumption)) (new .environment) 0 (Satisfying (t .formula) (arenaLeft i o n new (t .assumption)))
@@ -46,6 +46,6 @@ RuleEndless mode i o rule condition new (Refused x) = Unit {0}
 
 -- the answer for a given automaton, in terms of goals entered
 abbrev pub GivenEndless : (mode : Mode) (G : Arena) (σ τ : Table) (start : State) (r : Answer) → Type 0
-GivenEndless mode G σ τ start (Can n) = CanEndless mode G σ start (Reaching G start)
+GivenEndless mode G σ τ start (Can n k) = CanEndless mode G k σ start (Reaching G start)
 GivenEndless mode G σ τ start (Cannot n) = CannotEndless mode G τ start (Reaching G start)
 GivenEndless mode G σ τ start (Refused x) = Unit {0}

@@ -56,7 +56,7 @@ pub record Solved (refusal : Refusal) (mode : Mode) (start : ℕ) (G : Arena) (�
   pub number : answerNumber r ≡ numberOf refusal
   pub place : answerPlace r ≡ placeOf refusal
   pub refused : (refusal ≡ Nothing → ⊥) → (r ≡ Refused refusal) × (σ ≡ σ₀) × (τ ≡ τ₀)
-  pub served : refusal ≡ Nothing → (can : Bool) × (r ≡ verdictOf can (G .states)) × Tables mode G σ₀ τ₀ σ τ × Verdict mode G σ τ start can
+  pub served : refusal ≡ Nothing → (round : ℕ) × (r ≡ verdictOf (G .states) round) × Tables mode G σ₀ τ₀ σ τ × Verdict mode G σ τ start round
 
 -- the whole promise
 abbrev pub GivenSolved : (mode : Mode) (i o start : ℕ) (G : Arena) (σ₀ τ₀ σ τ : Table) (r : Answer) → Type 0

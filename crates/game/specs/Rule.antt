@@ -2,7 +2,7 @@
 -- Assumes nothing.
 use Prim.Native.Nat.{ℕ, _*_, _^_, _<_, _≤_}
 use mathlib.Core.Path.{_≡_}
-use mathlib.Core.Bool.{Bool, true, false, cond, _||_}
+use mathlib.Core.Bool.{Bool, cond, _||_}
 use mathlib.Core.List.{List}
 use lib.Dec.{ltb}
 use lib.ListN.{length, take}
@@ -29,16 +29,17 @@ use Rattle.plays.specs.declared.mode.Mode.{Mode}
 use Rattle.plays.specs.Arena.{Input, Arena, arena}
 use Rattle.plays.specs.Play.{Step, standsOn, letters, Along}
 use Rattle.plays.specs.Strategy.{Table, systemByte, environmentByte, BySystem, ByEnvironment, Assumed, Failed}
+use Rattle.plays.specs.Round.{RoundNumber}
 use Rattle.game.specs.Tables.{Tables, Verdict}
 
 -- a beginning of the play, its first k steps for a k from 1 to its length, satisfies the rule
 abbrev pub Satisfied : Formula → Arena → List Step → Type 0
 Satisfied φ G p = (k : ℕ) × (0 < k) × (k ≤ length p) × Satisfies φ (take k (letters G p))
 
--- "can": every play from the start that follows the system's strategy has a beginning that satisfies the rule, where the condition has come often enough,
--- and until then comes to no byte that is no output
-pub record Can (mode : Mode) (φ : Formula) (G : Arena) (σ : Table) : Type 0 where
-  pub satisfying : (p : List Step) → Along G (BySystem G σ) 0 p → Assumed mode G p → Satisfied φ G p
+-- "can", with the round number r: every play from the start that follows the system's strategy has a beginning that satisfies the rule, where the condition
+-- has come r times, and until then comes to no byte that is no output
+pub record Can (mode : Mode) (φ : Formula) (G : Arena) (r : ℕ) (σ : Table) : Type 0 where
+  pub satisfying : (p : List Step) → Along G (BySystem G σ) 0 p → Assumed mode G r p → Satisfied φ G p
   pub answers : (p : List Step) → Along G (BySystem G σ) 0 p → (Satisfied φ G p → ⊥) → (x : Input) → x < G .inputs
       → systemByte G σ (standsOn G 0 p) x < G .outputs
 
@@ -75,8 +76,8 @@ ruleRefusal i o rule condition old ρ κ n =
     (afterCondition κ
     (cond (ltb stateLimit n) StateCount Nothing)))))
 
--- a served call: the formulas of the two texts, the automaton, both tables, the verdict and what it promises
-pub record RuleServed (mode : Mode) (i o : ℕ) (rule condition : Text) (old new : Buffers) (n : ℕ) (can : Bool) : Type 0 where
+-- a served call: the formulas of the two texts, the automaton, both tables, the verdict with its round number r and what it promises
+pub record RuleServed (mode : Mode) (i o : ℕ) (rule condition : Text) (old new : Buffers) (n r : ℕ) : Type 0 where
   pub formula : Formula
   pub good : IsGood i (ruleKind i o) rule formula
   pub assumption : Formula
@@ -87,9 +88,11 @@ pub record RuleServed (mode : Mode) (i o : ℕ) (rule condition : Text) (old new
   pub accepting-rest : Cleared n stateLimit (old .accepting) (new .accepting)
   pub tables : Tables mode (arena i o n (new .transitions) (new .accepting) (maskOf assumption i))
       (old .system) (old .environment) (new .system) (new .environment)
-  pub verdict : Verdict mode (arena i o n (new .transitions) (new .accepting) (maskOf assumption i)) (new .system) (new .environment) 0 can
-  pub can-promise : can ≡ true → Can mode formula (arena i o n (new .transitions) (new .accepting) (maskOf assumption i)) (new .system)
-  pub cannot-promise : can ≡ false → Cannot mode formula (arena i o n (new .transitions) (new .accepting) (maskOf assumption i)) (new .environment)
+  pub verdict : Verdict mode (arena i o n (new .transitions) (new .accepting) (maskOf assumption i)) (new .system) (new .environment) 0 r
+  pub can-promise : 0 < r → Can mode formula (arena i o n (new .transitions) (new .accepting) (maskOf assumption i)) r (new .system)
+  pub cannot-promise : r ≡ 0 → Cannot mode formula (arena i o n (new .transitions) (new .accepting) (maskOf assumption i)) (new .environment)
+  pub round : RoundNumber mode (arena i o n (new .transitions) (new .accepting) (maskOf assumption i))
+      (Satisfied formula (arena i o n (new .transitions) (new .accepting) (maskOf assumption i))) r
 
 -- the whole promise: the specification's number and place, the answer and the four buffers on every input
 pub record RuleSolved (mode : Mode) (i o : ℕ) (rule condition : Text) (old new : Buffers) (r : Answer) : Type 0 where
@@ -103,7 +106,7 @@ pub record RuleSolved (mode : Mode) (i o : ℕ) (rule condition : Text) (old new
   pub first : refusal ≡ ruleRefusal i o rule condition old reading condition-reading states
   pub number : answerNumber r ≡ numberOf refusal
   pub place : answerPlace r ≡ placeOf refusal
-  pub served : refusal ≡ Nothing → (can : Bool) × (r ≡ verdictOf can states) × RuleServed mode i o rule condition old new states can
+  pub served : refusal ≡ Nothing → (round : ℕ) × (r ≡ verdictOf states round) × RuleServed mode i o rule condition old new states round
   pub refused : (refusal ≡ Nothing → ⊥) → (r ≡ Refused refusal) × (new .system ≡ old .system) × (new .environment ≡ old .environment)
   pub over : refusal ≡ StateCount → Over i o rule (old .transitions) (old .accepting) (new .transitions) (new .accepting)
   pub untouched : (refusal ≡ Nothing → ⊥) → (refusal ≡ StateCount → ⊥) → (new .transitions ≡ old .transitions) × (new .accepting ≡ old .accepting)

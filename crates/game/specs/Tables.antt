@@ -3,21 +3,22 @@
 -- Assumes nothing.
 use Prim.Native.Nat.{ℕ, _*_, _<_, _≤_}
 use mathlib.Core.Path.{_≡_}
-use mathlib.Core.Bool.{Bool, true, false}
 use mathlib.Core.Logic.{_⊎_}
 use lib.ListN.{length, getD}
 use Rattle.automaton.specs.Limits.{stateLimit}
 use Rattle.plays.specs.declared.mode.Mode.{Mode}
 use Rattle.plays.specs.Arena.{State, Input, Arena}
 use Rattle.plays.specs.Strategy.{Table, systemByte, environmentByte, SystemWins, EnvironmentWins}
+use Rattle.plays.specs.Round.{RoundNumber}
+use Rattle.plays.specs.Endless.{Reaching}
 
 -- the byte where a player has no move
 abbrev pub noMove : ℕ
 noMove = 255
 
--- a state that the system wins: its strategy holds good from there, its bytes there are outputs, and the environment has none
+-- a state that the system wins: its strategy holds good from there, with n, its bytes there are outputs, and the environment has none
 pub record SystemState (mode : Mode) (G : Arena) (σ τ : Table) (s : State) : Type 0 where
-  pub wins : SystemWins mode G σ s
+  pub wins : SystemWins mode G (G .states) σ s
   pub bytes : (x : Input) → x < G .inputs → systemByte G σ s x < G .outputs
   pub other : environmentByte τ s ≡ noMove
 
@@ -37,7 +38,9 @@ pub record Tables (mode : Mode) (G : Arena) (σ₀ τ₀ σ τ : Table) : Type 0
   pub environment-beyond : (k : ℕ) → stateLimit ≤ k → getD τ k 0 ≡ getD τ₀ k 0
   pub environment-size : length τ ≡ length τ₀
 
--- the verdict on the start: "can" where the system wins from it, "cannot" where the environment does
-pub record Verdict (mode : Mode) (G : Arena) (σ τ : Table) (start : State) (can : Bool) : Type 0 where
-  pub system : can ≡ true → SystemState mode G σ τ start
-  pub environment : can ≡ false → EnvironmentState mode G σ τ start
+-- the verdict on the start with the round number r: "can" where r is above 0, and then the system's strategy holds good from the start with r for n;
+-- "cannot" where r is 0, and then the environment wins from the start
+pub record Verdict (mode : Mode) (G : Arena) (σ τ : Table) (start : State) (r : ℕ) : Type 0 where
+  pub system : 0 < r → SystemState mode G σ τ start × SystemWins mode G r σ start
+  pub environment : r ≡ 0 → EnvironmentState mode G σ τ start
+  pub round : RoundNumber mode G (Reaching G start) r

@@ -12,10 +12,11 @@ ghost use mathlib.Core.Bool.{true, false};
 ghost use Prim.Native.Nat.{_<_, _≤_};
 ghost use lib.ListN.{length};
 ghost use Rattle.automaton.specs.Limits.{stateLimit};
-ghost use Rattle.plays.specs.inner.Rank.{Ranking};
+ghost use Rattle.automaton.specs.Bits.{bit};
 ghost use Rattle.game.specs.inner.Game.{arenaOf, Valid};
 ghost use Rattle.game.specs.inner.Solver.{
   rankedBelow,
+  safeBelow,
   serving,
   FirstUnserved,
   Unranked,
@@ -25,6 +26,14 @@ ghost use Rattle.game.specs.inner.Solver.{
   Passed,
   Attraction,
   Promoted,
+  Found,
+  Stands,
+  Yields,
+  raisedNeed,
+  Bounds,
+  Settled,
+  Narrowed,
+  Solves,
 };
 
 // The ranks of both players, 0 for none.
@@ -33,10 +42,11 @@ pub struct Ranks {
     pub environment: [Rank; STATE_LIMIT],
 }
 
-// The limits below which a rank counts: for a state that is won, and for one that is lost.
+// The limits below which a rank counts: for a state that is won, and for one that is safe, which has such a rank or, where `inside` is false, has none.
 struct Limits {
     won: Rank,
-    lost: Rank,
+    safe: Rank,
+    inside: bool,
 }
 
 // Whether state t has a rank below the limit.
@@ -51,36 +61,33 @@ fn ranked_below(limit: Rank, r: &[Rank; STATE_LIMIT], t: usize) -> bool
     rank < limit
 }
 
-// Whether output y serves input x on state s: it enters a goal, or a state that is not lost and, where x has the condition, won.
+// Whether output y serves input x on state s: it enters a goal, or a state that is won where x has the condition, and one that is safe where it lacks it.
 fn serves(
     g: Game,
     transitions: &[u8],
     accepting: &[u8],
     won: &[Rank; STATE_LIMIT],
-    lost: &[Rank; STATE_LIMIT],
+    safe: &[Rank; STATE_LIMIT],
     limits: Limits,
     s: usize,
     x: usize,
     y: usize,
+    judged: bool,
 ) -> bool
     requires { ⌜ Valid (arenaOf g (now transitions) (now accepting)) ⌝ }
     requires { ⌜ (s < g .states) × (x < g .inputs) × (y < g .outputs) ⌝ }
+    requires { ⌜ judged ≡ bit (g .mask) x ⌝ }
     ensures { λ r. ⌜ r ≡ serving (arenaOf g (now (transitions .entry)) (now (accepting .entry)))
-        (rankedBelow (limits .won) (now (won .entry))) (rankedBelow (limits .lost) (now (lost .entry))) s x y ⌝ }
+        (rankedBelow (limits .won) (now (won .entry))) (safeBelow (limits .inside) (limits .safe) (now (safe .entry))) s x y ⌝ }
 {
     let t = enters(g, transitions, s, x, y);
     if accepting[t] != 0 {
         return true;
     }
-    let is_lost = ranked_below(limits.lost, lost, t);
-    let is_won = ranked_below(limits.won, won, t);
-    if is_lost {
-        return false;
+    if judged {
+        return ranked_below(limits.won, won, t);
     }
-    if is_won {
-        return true;
-    }
-    !has_condition(g.mask, x)
+    ranked_below(limits.safe, safe, t) == limits.inside
 }
 
 // The output y, or output 0 where y is none of the n outputs.
@@ -99,7 +106,7 @@ fn unserved(
     transitions: &[u8],
     accepting: &[u8],
     won: &[Rank; STATE_LIMIT],
-    lost: &[Rank; STATE_LIMIT],
+    safe: &[Rank; STATE_LIMIT],
     limits: Limits,
     s: usize,
     witness: &mut [u8; STATE_LIMIT * NUMBER_LIMIT],
@@ -107,13 +114,14 @@ fn unserved(
     requires { ⌜ Valid (arenaOf g (now transitions) (now accepting)) ⌝ }
     requires { ⌜ s < g .states ⌝ }
     ensures { λ r. ⌜ FirstUnserved (arenaOf g (now (transitions .entry)) (now (accepting .entry)))
-        (rankedBelow (limits .won) (now (won .entry))) (rankedBelow (limits .lost) (now (lost .entry))) s r ⌝ }
+        (rankedBelow (limits .won) (now (won .entry))) (safeBelow (limits .inside) (limits .safe) (now (safe .entry))) s r ⌝ }
 {
     let inputs = g.inputs;
     let outputs = g.outputs;
     let mut x: usize = 0;
     'inputs: while x < inputs {
         let at = s * inputs + x;
+        let judged = has_condition(g.mask, x);
         let mut y = wide(witness[at]);
         let mut tried: usize = 0;
         loop {
@@ -121,7 +129,7 @@ fn unserved(
                 break 'inputs;
             }
             y = wrapped(y, outputs);
-            if serves(g, transitions, accepting, won, lost, limits, s, x, y) {
+            if serves(g, transitions, accepting, won, safe, limits, s, x, y, judged) {
                 break;
             }
             tried += 1;
@@ -168,14 +176,16 @@ fn attracted(
     if g.fair {
         let limits = Limits {
             won: RANK_LIMIT,
-            lost: p,
+            safe: p,
+            inside: false,
         };
         let x = unserved(g, transitions, accepting, outer, inner, limits, s, witness);
         x < inputs
     } else {
         let limits = Limits {
             won: p,
-            lost: RANK_LIMIT,
+            safe: RANK_LIMIT,
+            inside: false,
         };
         let x = unserved(g, transitions, accepting, inner, outer, limits, s, witness);
         inputs <= x
@@ -257,7 +267,7 @@ fn rounds(
     witness: &mut [u8; STATE_LIMIT * NUMBER_LIMIT],
 ) -> Ranks
     requires { ⌜ Valid (arenaOf g (now transitions) (now accepting)) ⌝ }
-    ensures { λ r. ⌜ Ranking (g .fair) (arenaOf g (now (transitions .entry)) (now (accepting .entry))) (r .system) (r .environment) ⌝ }
+    ensures { λ r. ⌜ Found (g .fair) (arenaOf g (now (transitions .entry)) (now (accepting .entry))) (r .system) (r .environment) ⌝ }
 {
     let states = g.states;
     let mut outer: [Rank; STATE_LIMIT] = [0; STATE_LIMIT];
@@ -279,11 +289,191 @@ fn rounds(
     }
 }
 
-// The ranks of both players. The witness of a state and an input is the output that served it last; at first, output 0.
-pub(crate) fn solve(g: Game, transitions: &[u8], accepting: &[u8]) -> Ranks
+// Whether the need of state s stands with the limit: it has none, or its need is at most the limit and every input has an output by which the needs fall.
+fn stands(
+    g: Game,
+    transitions: &[u8],
+    accepting: &[u8],
+    limit: Rank,
+    needs: &[Rank; STATE_LIMIT],
+    s: usize,
+    witness: &mut [u8; STATE_LIMIT * NUMBER_LIMIT],
+) -> bool
     requires { ⌜ Valid (arenaOf g (now transitions) (now accepting)) ⌝ }
-    ensures { λ r. ⌜ Ranking (g .fair) (arenaOf g (now (transitions .entry)) (now (accepting .entry))) (r .system) (r .environment) ⌝ }
+    requires { ⌜ (s < g .states) × (limit ≤ stateLimit) ⌝ }
+    ensures { λ r. ⌜ (r ≡ true → Stands (arenaOf g (now (transitions .entry)) (now (accepting .entry))) limit (now (needs .entry)) s) ⌝ }
+    ensures { λ r. ⌜ (r ≡ false → Yields (arenaOf g (now (transitions .entry)) (now (accepting .entry))) limit (now (needs .entry)) s) ⌝ }
+{
+    let own = needs[s];
+    if own == 0 {
+        return true;
+    }
+    if limit < own {
+        return false;
+    }
+    let limits = Limits {
+        won: own,
+        safe: limit + 1,
+        inside: true,
+    };
+    let x = unserved(g, transitions, accepting, needs, needs, limits, s, witness);
+    g.inputs <= x
+}
+
+// The next need after one that does not stand, and none above the limit.
+fn raised(limit: Rank, need: Rank) -> Rank
+    requires { ⌜ limit ≤ stateLimit ⌝ }
+    ensures { λ r. ⌜ r ≡ raisedNeed limit need ⌝ }
+{
+    if need < limit {
+        return need + 1;
+    }
+    0
+}
+
+// Lifts the need of each state whose need does not stand, and says whether there was one.
+fn sweep(
+    g: Game,
+    transitions: &[u8],
+    accepting: &[u8],
+    limit: Rank,
+    needs: &mut [Rank; STATE_LIMIT],
+    witness: &mut [u8; STATE_LIMIT * NUMBER_LIMIT],
+) -> bool
+{
+    let states = g.states;
+    let mut lifted = false;
+    let mut s: usize = 0;
+    while s < states {
+        if !stands(g, transitions, accepting, limit, needs, s, witness) {
+            needs[s] = raised(limit, needs[s]);
+            lifted = true;
+        }
+        s += 1;
+    }
+    lifted
+}
+
+// Lifts the needs until each of them stands with the limit.
+fn settle(
+    g: Game,
+    transitions: &[u8],
+    accepting: &[u8],
+    limit: Rank,
+    needs: &mut [Rank; STATE_LIMIT],
+    witness: &mut [u8; STATE_LIMIT * NUMBER_LIMIT],
+)
+{
+    while sweep(g, transitions, accepting, limit, needs, witness) {}
+}
+
+// The needs to begin with: 1 for each of the n states that the system wins.
+fn first_needs(system: &[Rank; STATE_LIMIT], n: usize) -> [Rank; STATE_LIMIT]
+{
+    let mut needs: [Rank; STATE_LIMIT] = [0; STATE_LIMIT];
+    let mut s: usize = 0;
+    while s < n {
+        if system[s] != 0 {
+            needs[s] = 1;
+        }
+        s += 1;
+    }
+    needs
+}
+
+// Needs and the limit with which they stand.
+pub struct Needs {
+    pub ranks: [Rank; STATE_LIMIT],
+    pub limit: Rank,
+}
+
+// The needs with the least limit with which the start keeps one. The limit goes down from n, where the system's ranks are such needs, and what was lifted
+// stays lifted.
+fn narrow(
+    g: Game,
+    transitions: &[u8],
+    accepting: &[u8],
+    start: usize,
+    system: &[Rank; STATE_LIMIT],
+    witness: &mut [u8; STATE_LIMIT * NUMBER_LIMIT],
+) -> Needs
+    ensures { λ r. ⌜ Narrowed (arenaOf g (now (transitions .entry)) (now (accepting .entry))) start (now (system .entry)) (r .ranks) (r .limit) ⌝ }
+{
+    let mut best: [Rank; STATE_LIMIT] = *system;
+    let mut needs: [Rank; STATE_LIMIT] = first_needs(system, g.states);
+    let mut m: Rank = g.states as Rank;
+    while 1 < m {
+        settle(g, transitions, accepting, m - 1, &mut needs, witness);
+        if needs[start] == 0 {
+            break;
+        }
+        best = needs;
+        m -= 1;
+    }
+    Needs {
+        ranks: best,
+        limit: m,
+    }
+}
+
+// What the solver finds: the ranks of both players, the ranks by which the system's table goes first, and the round number, 0 where the system cannot.
+pub struct Solution {
+    pub near: [Rank; STATE_LIMIT],
+    pub system: [Rank; STATE_LIMIT],
+    pub environment: [Rank; STATE_LIMIT],
+    pub round: Rank,
+}
+
+// The round number of the start, and the ranks by which the system's table keeps it.
+fn numbered(
+    g: Game,
+    transitions: &[u8],
+    accepting: &[u8],
+    start: usize,
+    ranks: Ranks,
+    witness: &mut [u8; STATE_LIMIT * NUMBER_LIMIT],
+) -> Solution
+    requires { ⌜ Valid (arenaOf g (now transitions) (now accepting)) ⌝ }
+    requires { ⌜ start < g .states ⌝ }
+    requires { ⌜ Found (g .fair) (arenaOf g (now transitions) (now accepting)) (ranks .system) (ranks .environment) ⌝ }
+    ensures { λ r. ⌜ Solves (g .fair) (arenaOf g (now (transitions .entry)) (now (accepting .entry))) start
+        (r .near) (r .system) (r .environment) (r .round) ⌝ }
+{
+    let system = ranks.system;
+    let environment = ranks.environment;
+    if g.fair {
+        return Solution {
+            near: system,
+            system: system,
+            environment: environment,
+            round: system[start],
+        };
+    }
+    if environment[start] != 0 {
+        return Solution {
+            near: [0; STATE_LIMIT],
+            system: system,
+            environment: environment,
+            round: 0,
+        };
+    }
+    let needs = narrow(g, transitions, accepting, start, &system, witness);
+    Solution {
+        near: needs.ranks,
+        system: system,
+        environment: environment,
+        round: needs.limit,
+    }
+}
+
+// Solves the game from the start. The witness of a state and an input is the output that served it last; at first, output 0.
+pub(crate) fn solve(g: Game, transitions: &[u8], accepting: &[u8], start: usize) -> Solution
+    requires { ⌜ Valid (arenaOf g (now transitions) (now accepting)) ⌝ }
+    requires { ⌜ start < g .states ⌝ }
+    ensures { λ r. ⌜ Solves (g .fair) (arenaOf g (now (transitions .entry)) (now (accepting .entry))) start
+        (r .near) (r .system) (r .environment) (r .round) ⌝ }
 {
     let mut witness: [u8; STATE_LIMIT * NUMBER_LIMIT] = [0; STATE_LIMIT * NUMBER_LIMIT];
-    rounds(g, transitions, accepting, &mut witness)
+    let ranks = rounds(g, transitions, accepting, &mut witness);
+    numbered(g, transitions, accepting, start, ranks, &mut witness)
 }

@@ -12,8 +12,8 @@ use Rattle.plays.specs.declared.mode.Mode.{Mode}
 use Rattle.plays.specs.declared.mode.Mode.the-variants.{Fair, Stable}
 use Rattle.plays.specs.Arena.{State, Input, Arena, holds}
 use Rattle.plays.specs.Play.{Step, reaches, Along}
-use Rattle.plays.specs.Strategy.{Table, BySystem, ByEnvironment, Failed}
-use Rattle.plays.specs.Way.{SystemWay, EnvironmentWay, Outputs, Inputs, bySystem, byEnvironment, ordered, meet, Chosen}
+use Rattle.plays.specs.Strategy.{Table, BySystem, ByEnvironment, Assumed, Failed}
+use Rattle.plays.specs.Way.{SystemWay, EnvironmentWay, Outputs, Inputs, bySystem, byEnvironment, ordered, meet, ByWay}
 
 -- the first k steps of a play without end
 unfoldable pub first : (ℕ → Step) → ℕ → List Step
@@ -56,18 +56,22 @@ abbrev pub Reaching : Arena → State → List Step → Type 0
 Reaching G s p = reaches G s p ≡ true
 
 -- a beginning of the play without end is done, by which `Done` says that it does what it has to, and up to there it follows the system's strategy: so the
--- strategy had an output wherever one was needed
-abbrev pub Kept : (G : Arena) (σ : Table) (s : State) (Done : List Step → Type 0) (f : ℕ → Step) → Type 0
-Kept G σ s Done f = (k : ℕ) × Along G (BySystem G σ) s (first f k) × Done (first f k)
+-- strategy had an output wherever one was needed. It is done by the k-th step with the condition: before its last step the condition had not come k times
+pub record Kept (mode : Mode) (G : Arena) (k : ℕ) (σ : Table) (s : State) (Done : List Step → Type 0) (f : ℕ → Step) : Type 0 where
+  pub before : ℕ
+  pub follows : Along G (BySystem G σ) s (first f (suc before))
+  pub done : Done (first f (suc before))
+  pub soon : Assumed mode G k (first f before) → ⊥
 
--- "can"
-pub record CanEndless (mode : Mode) (G : Arena) (σ : Table) (s : State) (Done : List Step → Type 0) : Type 0 where
+-- "can", with the number k
+pub record CanEndless (mode : Mode) (G : Arena) (k : ℕ) (σ : Table) (s : State) (Done : List Step → Type 0) : Type 0 where
   -- whatever the order of inputs, without end, that keeps the environment's promise: on the play that it makes with the system's strategy a beginning is done
-  pub orders : (x : ℕ → Input) → ((j : ℕ) → x j < G .inputs) → Promised mode G x → Kept G σ s Done (meet (ordered x) (bySystem G σ s))
+  pub orders : (x : ℕ → Input) → ((j : ℕ) → x j < G .inputs) → Promised mode G x → Kept mode G k σ s Done (meet (ordered x) (bySystem G σ s))
   -- and whatever the environment does, with any memory and in sight of all outputs, if it keeps its promise on the play that it makes with the strategy
-  pub ways : (α : EnvironmentWay) → Inputs G α → Promised mode G (inputs (meet α (bySystem G σ s))) → Kept G σ s Done (meet α (bySystem G σ s))
+  pub ways : (α : EnvironmentWay) → Inputs G α → Promised mode G (inputs (meet α (bySystem G σ s)))
+      → Kept mode G k σ s Done (meet α (bySystem G σ s))
   -- and on every play without end that follows the strategy and on which the environment keeps its promise
-  pub plays : (f : ℕ → Step) → Follows G (BySystem G σ) s f → Promised mode G (inputs f) → Kept G σ s Done f
+  pub plays : (f : ℕ → Step) → Follows G (BySystem G σ) s f → Promised mode G (inputs f) → Kept mode G k σ s Done f
 
 -- no beginning of the play without end is ever done; the environment's promise is kept on it, and none of its beginnings fails the assumption
 pub record Defeated (mode : Mode) (G : Arena) (Done : List Step → Type 0) (f : ℕ → Step) : Type 0 where
@@ -83,5 +87,5 @@ pub record CannotEndless (mode : Mode) (G : Arena) (τ : Table) (s : State) (Don
   -- only one of its length that does
   pub ways : (ω : SystemWay) → Outputs G ω → Defeated mode G Done (meet (byEnvironment G τ s) ω)
   pub made : (ω : SystemWay) → Outputs G ω → Follows G (ByEnvironment G τ) s (meet (byEnvironment G τ s) ω)
-  pub chosen : (ω : SystemWay) (k : ℕ) → Chosen ω (first (meet (byEnvironment G τ s) ω) k)
-  pub only : (ω : SystemWay) (p : List Step) → Along G (ByEnvironment G τ) s p → Chosen ω p → p ≡ first (meet (byEnvironment G τ s) ω) (length p)
+  pub by : (ω : SystemWay) → Outputs G ω → (k : ℕ) → ByWay G ω (first (meet (byEnvironment G τ s) ω) k)
+  pub only : (ω : SystemWay) (p : List Step) → Along G (ByEnvironment G τ) s p → ByWay G ω p → p ≡ first (meet (byEnvironment G τ s) ω) (length p)

@@ -31,19 +31,20 @@ BySystem G σ s a = Legal G a × (a .output ≡ systemByte G σ s (a .input))
 abbrev pub ByEnvironment : (G : Arena) (τ : Table) (s : State) (a : Step) → Type 0
 ByEnvironment G τ s a = Legal G a × (a .input ≡ environmentByte τ s)
 
--- a play on which the system has to reach a goal: fair, the condition at n steps; stable, at n steps in a row
-abbrev pub Assumed : Mode → Arena → List Step → Type 0
-Assumed Fair G p = G .states ≤ count (holds G) p
-Assumed Stable G p = InRow (holds G) (G .states) p
+-- a play on which the condition has come k times, as the mode counts: fair, at k steps; stable, at k steps in a row
+abbrev pub Assumed : (mode : Mode) (G : Arena) (k : ℕ) (p : List Step) → Type 0
+Assumed Fair G k p = k ≤ count (holds G) p
+Assumed Stable G k p = InRow (holds G) k p
 
 -- a play on which the environment has failed its assumption: fair, n steps in a row without the condition; stable, n steps in all without it
 abbrev pub Failed : Mode → Arena → List Step → Type 0
 Failed Fair G p = InRow (lacks G) (G .states) p
 Failed Stable G p = G .states ≤ count (lacks G) p
 
--- the system's strategy holds good from s: every play that follows it reaches a goal where it has to, and until then comes to no byte that is no output
-pub record SystemWins (mode : Mode) (G : Arena) (σ : Table) (s : State) : Type 0 where
-  pub reaching : (p : List Step) → Along G (BySystem G σ) s p → Assumed mode G p → reaches G s p ≡ true
+-- the system's strategy holds good from s with the number k: every play that follows it and on which the condition has come k times reaches a goal, and until
+-- a goal no such play comes to a byte that is no output. Demand 3 has n for k, and the round number (Round.antt) from the start
+pub record SystemWins (mode : Mode) (G : Arena) (k : ℕ) (σ : Table) (s : State) : Type 0 where
+  pub reaching : (p : List Step) → Along G (BySystem G σ) s p → Assumed mode G k p → reaches G s p ≡ true
   pub answers : (p : List Step) → Along G (BySystem G σ) s p → reaches G s p ≡ false → (x : Input) → x < G .inputs
       → systemByte G σ (standsOn G s p) x < G .outputs
 

@@ -6,7 +6,7 @@ use mathlib.Core.Path.{_≡_}
 use mathlib.Core.List.{List, [], _∷_}
 use lib.ListN.{length}
 use Rattle.plays.specs.Arena.{State, Input, Output, Arena}
-use Rattle.plays.specs.Play.{Step, standsOn}
+use Rattle.plays.specs.Play.{Step, Legal, standsOn}
 use Rattle.plays.specs.Strategy.{Table, systemByte, environmentByte}
 
 -- a way of the system: an output for the steps so far and the input
@@ -50,7 +50,7 @@ unfoldable pub meet : EnvironmentWay → SystemWay → ℕ → Step
 meet α ω zero = meeting α ω
 meet α ω (suc j) = meet (environmentAfter (meeting α ω) α) (systemAfter (meeting α ω) ω) j
 
--- the outputs of a play are those of a way
-unfoldable pub Chosen : SystemWay → List Step → Type 0
-Chosen ω [] = Unit {0}
-Chosen ω (a ∷ p) = (a .output ≡ ω [] (a .input)) × Chosen (systemAfter a ω) p
+-- a play by a way of the system: its numbers are in range, and each output is the way's for the steps before and the input
+unfoldable pub ByWay : Arena → SystemWay → List Step → Type 0
+ByWay G ω [] = Unit {0}
+ByWay G ω (a ∷ p) = Legal G a × (a .output ≡ ω [] (a .input)) × ByWay G (systemAfter a ω) p

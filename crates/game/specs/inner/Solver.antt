@@ -3,13 +3,15 @@
 -- Assumes nothing.
 use Prim.Native.Nat.{ℕ, _+_, _<_, _≤_}
 use mathlib.Core.Path.{_≡_}
-use mathlib.Core.Bool.{Bool, true, false, not, _||_, _&&_}
+use mathlib.Core.Bool.{Bool, true, false, not, cond, _||_, _&&_, Bool·beq}
 use mathlib.Core.List.{List}
+use mathlib.Core.Logic.{_⊎_}
 use lib.Dec.{eqb, ltb}
 use lib.ListN.{getD}
 use Rattle.game.specs.inner.Limits.{rankLimit}
-use Rattle.plays.specs.Arena.{State, Input, Output, Arena, next, goal, lacks}
-use Rattle.plays.specs.inner.Rank.{judged, Forces}
+use Rattle.plays.specs.Arena.{State, Input, Output, Arena, next, goal, holds}
+use Rattle.plays.specs.inner.Rank.{judged, Forces, Falls, Ranked, Ranking}
+use Rattle.plays.specs.inner.Beaten.{Beaten}
 
 -- whether state t has a rank below the limit
 unfoldable pub rankedBelow : ℕ → List ℕ → ℕ → Bool
@@ -23,19 +25,23 @@ Unranked outer inner s = (getD outer s 0 ≡ 0) × (getD inner s 0 ≡ 0)
 abbrev pub Apart : List ℕ → List ℕ → Type 0
 Apart outer inner = (t : ℕ) → 0 < getD outer t 0 → getD inner t 0 ≡ 0
 
--- the test on the state t that a step with input x enters: a goal, or a state that is not lost and, where x has the condition, already won
-unfoldable pub servingAt : (G : Arena) (won lost : State → Bool) (x : Input) (t : State) → Bool
-servingAt G won lost x t = goal G t || (not (lost t) && (lacks G x || won t))
+-- the test on the state t that a step with input x enters: a goal, or else a state that is won where x has the condition, and one that is safe where it lacks it
+unfoldable pub servingAt : (G : Arena) (won safe : State → Bool) (x : Input) (t : State) → Bool
+servingAt G won safe x t = goal G t || cond (holds G x) (won t) (safe t)
 
 -- output y serves input x on state s
-abbrev pub serving : (G : Arena) (won lost : State → Bool) (s : State) (x : Input) (y : Output) → Bool
-serving G won lost s x y = servingAt G won lost x (next G s x y)
+abbrev pub serving : (G : Arena) (won safe : State → Bool) (s : State) (x : Input) (y : Output) → Bool
+serving G won safe s x y = servingAt G won safe x (next G s x y)
+
+-- the safe states: those with a rank below the limit, or those without one
+abbrev pub safeBelow : (inside : Bool) (limit : ℕ) (r : List ℕ) (t : State) → Bool
+safeBelow inside limit r t = Bool·beq (rankedBelow limit r t) inside
 
 -- r is the first input that no output serves, or the number of inputs
-pub record FirstUnserved (G : Arena) (won lost : ℕ → Bool) (s r : ℕ) : Type 0 where
+pub record FirstUnserved (G : Arena) (won safe : ℕ → Bool) (s r : ℕ) : Type 0 where
   pub within : r ≤ G .inputs
-  pub served : (x : ℕ) → x < r → (y : ℕ) × (y < G .outputs) × (serving G won lost s x y ≡ true)
-  pub unserved : r < G .inputs → (y : ℕ) → y < G .outputs → serving G won lost s r y ≡ false
+  pub served : (x : ℕ) → x < r → (y : ℕ) × (y < G .outputs) × (serving G won safe s x y ≡ true)
+  pub unserved : r < G .inputs → (y : ℕ) → y < G .outputs → serving G won safe s r y ≡ false
 
 -- after input x the entered state t is not lost for the player and, where the input is judged, already won
 abbrev pub Favorable : (G : Arena) (player : Bool) (won lost : State → Bool) (x : Input) (t : State) → Type 0
@@ -90,3 +96,61 @@ pub record Promoted (n r : ℕ) (outer inner new : List ℕ) (gave : Bool) : Typ
   pub beyond : (t : ℕ) → n ≤ t → getD new t 0 ≡ getD outer t 0
   pub more : gave ≡ true → (s : ℕ) × (s < n) × Unranked outer inner s
   pub none : gave ≡ false → (new ≡ outer) × ((s : ℕ) → s < n → getD outer s 0 ≡ 0 → 0 < getD inner s 0)
+
+-- the ranks of both players after the last round; when fair the system is beaten with every budget below its rank
+pub record Found (fair : Bool) (G : Arena) (system environment : List ℕ) : Type 0 where
+  pub ranking : Ranking fair G system environment
+  pub beaten : fair ≡ true → (s k m : ℕ) → s < G .states → k < getD system s 0 → Beaten true G m s k
+
+-- ---- needs: the system's ranks when stable with a limit on steps in a row, lifted from 1 until they fit, where a rank above the limit is dropped to 0
+
+-- the needs so far, with the limit l: only states that the system wins have one, and the system is beaten with every budget up to l that is below a state's
+-- need, and with every one where it has none
+pub record Bounds (G : Arena) (system : List ℕ) (l : ℕ) (needs : List ℕ) : Type 0 where
+  pub won : (t : ℕ) → 0 < getD needs t 0 → 0 < getD system t 0
+  pub small : (t : ℕ) → getD needs t 0 ≤ l + 1
+  pub beaten : (s k : ℕ) → s < G .states → k ≤ l → (0 < getD needs s 0 → k < getD needs s 0) → Beaten false G l s k
+
+-- the need of state s stands with the limit l: it has none, or its need is at most l and every input has an output by which the needs fall
+abbrev pub Stands : (G : Arena) (l : ℕ) (needs : List ℕ) (s : State) → Type 0
+Stands G l needs s = 0 < getD needs s 0 → (getD needs s 0 ≤ l) × Forces G true s (Falls G true false needs s)
+
+-- the need of state s does not stand: it is above l, or the environment has an input after which no output enters a goal, a state of a lower need (where it
+-- has the condition) or a state of a need up to l (where it lacks it)
+abbrev pub Yields : (G : Arena) (l : ℕ) (needs : List ℕ) (s : State) → Type 0
+Yields G l needs s =
+    (0 < getD needs s 0)
+    × ((l < getD needs s 0)
+    ⊎ ((x : Input) × (x < G .inputs) × ((y : Output) → y < G .outputs
+    → (goal G (next G s x y) ≡ false) × (rankedBelow (cond (holds G x) (getD needs s 0) (l + 1)) needs (next G s x y) ≡ false))))
+
+-- the next need after k, and none above the limit
+abbrev pub raisedNeed : (l k : ℕ) → ℕ
+raisedNeed l k = cond (ltb k l) (k + 1) 0
+
+-- the needs with the limit l after the last lift
+pub record Settled (G : Arena) (system : List ℕ) (l : ℕ) (needs : List ℕ) : Type 0 where
+  pub bounds : Bounds G system l needs
+  pub ranked : Ranked G true false l needs
+
+-- needs with the least limit m with which the start keeps one
+pub record Narrowed (G : Arena) (start : State) (system needs : List ℕ) (m : ℕ) : Type 0 where
+  pub positive : 0 < m
+  pub few : m ≤ G .states
+  pub ranked : Ranked G true false m needs
+  pub won : (t : ℕ) → 0 < getD needs t 0 → 0 < getD system t 0
+  pub here : 0 < getD needs start 0
+  pub beaten : (k : ℕ) → k < m → Beaten false G k start k
+
+-- ---- what the solver finds: both players' ranks, the ranks `near` by which the system's table goes first, and the round number r. When fair the near ranks
+-- are the system's; when stable they are its needs with the limit r, or none on "cannot"
+pub record Solves (fair : Bool) (G : Arena) (start : State) (near system environment : List ℕ) (r : ℕ) : Type 0 where
+  pub ranking : Ranking fair G system environment
+  pub near-ranked : Ranked G true fair (G .states) near
+  pub near-won : (t : ℕ) → 0 < getD near t 0 → 0 < getD system t 0
+  pub near-fair : fair ≡ true → near ≡ system
+  pub can : 0 < r → 0 < getD near start 0
+  pub cannot : r ≡ 0 → 0 < getD environment start 0
+  pub fair-bound : fair ≡ true → getD near start 0 ≤ r
+  pub stable-bound : fair ≡ false → (t : ℕ) → getD near t 0 ≤ r
+  pub beaten : (k : ℕ) → k < r → Beaten fair G k start k

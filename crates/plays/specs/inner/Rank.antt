@@ -48,14 +48,14 @@ abbrev pub AllowedInput : (fair : Bool) (G : Arena) (r : List ℕ) (s : State) (
 AllowedInput fair G r s x =
     (x < G .inputs) × ((y : ℕ) → y < G .outputs → Safe G false (next G s x y) (Falls G false (not fair) r s x (next G s x y)))
 
--- a player's ranks, 0 for none, are a certificate
-pub record Ranked (G : Arena) (player steady : Bool) (r : List ℕ) : Type 0 where
+-- a player's ranks, 0 for none and at most `most`, are a certificate
+pub record Ranked (G : Arena) (player steady : Bool) (most : ℕ) (r : List ℕ) : Type 0 where
   pub within : (t : ℕ) → 0 < getD r t 0 → t < G .states
-  pub bound : (t : ℕ) → getD r t 0 ≤ G .states
+  pub bound : (t : ℕ) → getD r t 0 ≤ most
   pub forced : (s : ℕ) → 0 < getD r s 0 → Forces G player s (Falls G player steady r s)
 
 -- the ranks of both players: the system's are steady when fair and the environment's when stable, and each state has a rank for exactly one of them
 pub record Ranking (fair : Bool) (G : Arena) (system environment : List ℕ) : Type 0 where
-  pub of-system : Ranked G true fair system
-  pub of-environment : Ranked G false (not fair) environment
+  pub of-system : Ranked G true fair (G .states) system
+  pub of-environment : Ranked G false (not fair) (G .states) environment
   pub each : (s : ℕ) → s < G .states → ((0 < getD system s 0) × (getD environment s 0 ≡ 0)) ⊎ ((getD system s 0 ≡ 0) × (0 < getD environment s 0))

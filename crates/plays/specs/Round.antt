@@ -1,0 +1,28 @@
+-- The round number (specification, "Round number"): how many steps with the condition it takes at worst until the rule is satisfied, by the best way of
+-- answering that there is. Said over ways with any memory and over plays; nothing here speaks of how the number is found.
+-- `Done p` says that a beginning of the play p does what it has to: satisfies the rule, or enters a goal of a given automaton.
+-- Assumes nothing.
+use Prim.Native.Nat.{ℕ, _<_}
+use mathlib.Core.List.{List}
+use Rattle.plays.specs.declared.mode.Mode.{Mode}
+use Rattle.plays.specs.Arena.{Arena}
+use Rattle.plays.specs.Play.{Step}
+use Rattle.plays.specs.Strategy.{Assumed}
+use Rattle.plays.specs.Way.{SystemWay, Outputs, ByWay}
+
+-- a way does with the number k: every play by it on which the condition has come k times, in a row when stable, is done
+abbrev pub Does : (mode : Mode) (G : Arena) (Done : List Step → Type 0) (k : ℕ) (ω : SystemWay) → Type 0
+Does mode G Done k ω = (p : List Step) → ByWay G ω p → Assumed mode G k p → Done p
+
+-- a play that shows that a way does not do with the number k: it is by the way, the condition has come k times, and it is not done
+pub record Counterplay (mode : Mode) (G : Arena) (Done : List Step → Type 0) (k : ℕ) (ω : SystemWay) : Type 0 where
+  pub play : List Step
+  pub by : ByWay G ω play
+  pub assumed : Assumed mode G k play
+  pub undone : Done play → ⊥
+
+-- r is the round number: the smallest number, from 1 up, with which some way does, and 0 where there is none. Against every way there is a counterplay with
+-- every smaller number, and with every number at all where r is 0. No other number is (proofs/RoundLaws.antt, one-round)
+pub record RoundNumber (mode : Mode) (G : Arena) (Done : List Step → Type 0) (r : ℕ) : Type 0 where
+  pub some : 0 < r → (ω : SystemWay) × Outputs G ω × Does mode G Done r ω
+  pub smallest : (k : ℕ) → 0 < k → (0 < r → k < r) → (ω : SystemWay) → Outputs G ω → Counterplay mode G Done k ω

@@ -7,7 +7,7 @@ use mathlib.Core.List.{List}
 use Rattle.automaton.specs.Trial.{trialNumber, trialPlace}
 use Rattle.automaton.proofs.OneAnswer.{one-trial}
 use Rattle.game.specs.declared.follow.Followed.{Followed}
-use Rattle.game.specs.Answer.{answerNumber, answerPlace, answerStates}
+use Rattle.game.specs.Answer.{answerNumber, answerPlace, answerStates, answerRound}
 use Rattle.plays.specs.declared.mode.Mode.{Mode}
 use Rattle.plays.specs.Arena.{arena}
 use Rattle.game.specs.Rule.{Buffers}
@@ -23,15 +23,17 @@ numbers : {A : Type 0} {a b : A} {k m : ℕ} (f : A → ℕ) → a ≡ b → k �
 numbers f e p q = p ∙ ap f e ∙ sym q
 
 -- two runs of `airtable_solve_rule` agree
-pub one-solve-rule : {mode : Mode} (i : ℕ) {o : ℕ} {rule condition : List ℕ} {old new new′ : Buffers} {number can n place number′ can′ n′ place′ : ℕ}
-    → RuleWritten mode i o rule condition old new number can n place → RuleWritten mode i o rule condition old new′ number′ can′ n′ place′
-    → RuleWrittenAgree (2 ^ i) new new′ number can n place number′ can′ n′ place′
+pub one-solve-rule : {mode : Mode} (i : ℕ) {o : ℕ} {rule condition : List ℕ} {old new new′ : Buffers}
+    {number can n round place number′ can′ n′ round′ place′ : ℕ}
+    → RuleWritten mode i o rule condition old new number can n round place → RuleWritten mode i o rule condition old new′ number′ can′ n′ round′ place′
+    → RuleWrittenAgree (2 ^ i) new new′ number can n round place number′ can′ n′ round′ place′
 one-solve-rule i {new = new} {new′ = new′} x y =
     let w = one-rule (x .solved) (y .solved) in
     record {
       same-number = numbers answerNumber (w .answer) (x .number-of) (y .number-of);
       same-can = numbers canFlag (w .answer) (x .can-of) (y .can-of);
       same-n = numbers answerStates (w .answer) (x .n-of) (y .n-of);
+      same-round = numbers answerRound (w .answer) (x .round-of) (y .round-of);
       same-place = numbers answerPlace (w .answer) (x .place-of) (y .place-of);
       transitions = w .transitions;
       accepting = w .accepting;
@@ -42,15 +44,16 @@ one-solve-rule i {new = new} {new′ = new′} x y =
 
 -- two runs of `airtable_solve_given` agree
 pub one-solve-given : {mode : Mode} (i o : ℕ) {start n : ℕ} {transitions accepting : List ℕ} {mask : ℕ} {σ₀ τ₀ σ τ σ′ τ′ : List ℕ}
-    {number can place number′ can′ place′ : ℕ}
-    → GivenWritten mode i o start (arena i o n transitions accepting mask) σ₀ τ₀ σ τ number can place
-    → GivenWritten mode i o start (arena i o n transitions accepting mask) σ₀ τ₀ σ′ τ′ number′ can′ place′
-    → GivenWrittenAgree n (2 ^ i) σ τ σ′ τ′ number can place number′ can′ place′
+    {number can round place number′ can′ round′ place′ : ℕ}
+    → GivenWritten mode i o start (arena i o n transitions accepting mask) σ₀ τ₀ σ τ number can round place
+    → GivenWritten mode i o start (arena i o n transitions accepting mask) σ₀ τ₀ σ′ τ′ number′ can′ round′ place′
+    → GivenWrittenAgree n (2 ^ i) σ τ σ′ τ′ number can round place number′ can′ round′ place′
 one-solve-given i o {n = n} {σ = σ} {τ = τ} {σ′ = σ′} {τ′ = τ′} x y =
     let w = one-given i o (x .solved) (y .solved) in
     record {
       same-number = numbers answerNumber (w .answer) (x .number-of) (y .number-of);
       same-can = numbers canFlag (w .answer) (x .can-of) (y .can-of);
+      same-round = numbers answerRound (w .answer) (x .round-of) (y .round-of);
       same-place = numbers answerPlace (w .answer) (x .place-of) (y .place-of);
       tables = subst (λ (k : ℕ). TablesAfter k n (2 ^ i) σ τ σ′ τ′) (sym (x .number-of)) (w .tables);
     }

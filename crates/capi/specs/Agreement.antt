@@ -9,19 +9,21 @@ use Rattle.game.specs.Rule.{Buffers}
 use Rattle.game.specs.Agreement.{TablesAfter}
 
 -- the rule call
-pub record RuleWrittenAgree (inputs : ℕ) (new new′ : Buffers) (number can n place number′ can′ n′ place′ : ℕ) : Type 0 where
+pub record RuleWrittenAgree (inputs : ℕ) (new new′ : Buffers) (number can n round place number′ can′ n′ round′ place′ : ℕ) : Type 0 where
   pub same-number : number ≡ number′
   pub same-can : can ≡ can′
   pub same-n : n ≡ n′
+  pub same-round : round ≡ round′
   pub same-place : place ≡ place′
   pub transitions : new .transitions ≡ new′ .transitions
   pub accepting : new .accepting ≡ new′ .accepting
   pub tables : TablesAfter number n inputs (new .system) (new .environment) (new′ .system) (new′ .environment)
 
 -- the call for a given automaton with n states
-pub record GivenWrittenAgree (n inputs : ℕ) (σ τ σ′ τ′ : Table) (number can place number′ can′ place′ : ℕ) : Type 0 where
+pub record GivenWrittenAgree (n inputs : ℕ) (σ τ σ′ τ′ : Table) (number can round place number′ can′ round′ place′ : ℕ) : Type 0 where
   pub same-number : number ≡ number′
   pub same-can : can ≡ can′
+  pub same-round : round ≡ round′
   pub same-place : place ≡ place′
   pub tables : TablesAfter number n inputs σ τ σ′ τ′
 

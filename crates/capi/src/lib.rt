@@ -25,13 +25,14 @@ use crate::trial::trial_place;
 use crate::verdict::answer_number;
 use crate::verdict::answer_place;
 use crate::verdict::can_flag;
+use crate::verdict::round_of;
 use crate::verdict::states_of;
 use automaton::trial::try_rule;
 use game::follow::Position;
 use game::given::solve_given;
 use game::rule::solve_rule;
 
-// Solves the game of a rule and writes the automaton, both tables, the verdict and the number of states.
+// Solves the game of a rule and writes the automaton, both tables, the verdict, the number of states and the round number.
 #[no_mangle]
 pub extern "C" fn airtable_solve_rule(
     i: usize,
@@ -45,12 +46,13 @@ pub extern "C" fn airtable_solve_rule(
     outside: &mut [u8],
     can: &mut u8,
     n: &mut usize,
+    round: &mut usize,
     place: &mut usize,
 ) -> u8
     ensures { λ r. ⌜ RuleWritten (modeAt mode) i o (now (rule .entry)) (now (condition .entry))
         (buffers (now (moves .entry)) (now (marks .entry)) (now (station .entry)) (now (outside .entry)))
         (buffers (now (moves .exit)) (now (marks .exit)) (now (station .exit)) (now (outside .exit)))
-        r (now (can .exit)) (now (n .exit)) (now (place .exit)) ⌝ }
+        r (now (can .exit)) (now (n .exit)) (now (round .exit)) (now (place .exit)) ⌝ }
 {
     let answer = solve_rule(
         i,
@@ -65,11 +67,12 @@ pub extern "C" fn airtable_solve_rule(
     );
     *can = can_flag(answer);
     *n = states_of(answer);
+    *round = round_of(answer);
     *place = answer_place(answer);
     answer_number(answer)
 }
 
-// Solves the game on a given automaton and writes both tables and the verdict.
+// Solves the game on a given automaton and writes both tables, the verdict and the round number.
 #[no_mangle]
 pub extern "C" fn airtable_solve_given(
     i: usize,
@@ -83,10 +86,12 @@ pub extern "C" fn airtable_solve_given(
     station: &mut [u8],
     outside: &mut [u8],
     can: &mut u8,
+    round: &mut usize,
     place: &mut usize,
 ) -> u8
     ensures { λ r. ⌜ GivenWritten (modeAt mode) i o start (arena i o n (now (moves .entry)) (now (marks .entry)) mask)
-        (now (station .entry)) (now (outside .entry)) (now (station .exit)) (now (outside .exit)) r (now (can .exit)) (now (place .exit)) ⌝ }
+        (now (station .entry)) (now (outside .entry)) (now (station .exit)) (now (outside .exit))
+        r (now (can .exit)) (now (round .exit)) (now (place .exit)) ⌝ }
 {
     let answer = solve_given(
         i,
@@ -101,6 +106,7 @@ pub extern "C" fn airtable_solve_given(
         outside,
     );
     *can = can_flag(answer);
+    *round = round_of(answer);
     *place = answer_place(answer);
     answer_number(answer)
 }

@@ -1,6 +1,6 @@
 // The numbers of an answer of the two calls that solve a game.
 ghost use mathlib.Core.Path.{_≡_};
-ghost use Rattle.game.specs.Answer.{answerNumber, answerPlace, answerStates};
+ghost use Rattle.game.specs.Answer.{answerNumber, answerPlace, answerStates, answerRound};
 ghost use Rattle.capi.specs.Verdict.{canFlag};
 use game::answer::Answer;
 use reader::refusal::number_of;
@@ -11,7 +11,7 @@ pub(crate) fn answer_number(answer: Answer) -> u8
     ensures { λ r. ⌜ r ≡ answerNumber answer ⌝ }
 {
     match answer {
-        Answer::Can(_) => 0,
+        Answer::Can(_, _) => 0,
         Answer::Cannot(_) => 0,
         Answer::Refused(x) => number_of(x),
     }
@@ -22,7 +22,7 @@ pub(crate) fn answer_place(answer: Answer) -> usize
     ensures { λ r. ⌜ r ≡ answerPlace answer ⌝ }
 {
     match answer {
-        Answer::Can(_) => 0,
+        Answer::Can(_, _) => 0,
         Answer::Cannot(_) => 0,
         Answer::Refused(x) => place_of(x),
     }
@@ -33,7 +33,7 @@ pub(crate) fn can_flag(answer: Answer) -> u8
     ensures { λ r. ⌜ r ≡ canFlag answer ⌝ }
 {
     match answer {
-        Answer::Can(_) => 1,
+        Answer::Can(_, _) => 1,
         Answer::Cannot(_) => 0,
         Answer::Refused(_) => 0,
     }
@@ -44,8 +44,19 @@ pub(crate) fn states_of(answer: Answer) -> usize
     ensures { λ r. ⌜ r ≡ answerStates answer ⌝ }
 {
     match answer {
-        Answer::Can(n) => n,
+        Answer::Can(n, _) => n,
         Answer::Cannot(n) => n,
+        Answer::Refused(_) => 0,
+    }
+}
+
+// The round number, 0 for "cannot" and for a refusal.
+pub(crate) fn round_of(answer: Answer) -> usize
+    ensures { λ r. ⌜ r ≡ answerRound answer ⌝ }
+{
+    match answer {
+        Answer::Can(_, round) => round,
+        Answer::Cannot(_) => 0,
         Answer::Refused(_) => 0,
     }
 }

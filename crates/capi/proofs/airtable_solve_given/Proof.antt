@@ -14,15 +14,17 @@ airtable-solve-given-spec =
     (λ c κs. search needs)
     (λ c κs. search needs)
     (λ c κs. search needs)
+    (λ c κs. search needs)
     (λ c. search needs)
     (λ c. search needs)
     (λ c.
-    let s = c .before .before .before .before .before .before .before in
+    let s = c .before .before .before .before .before .before .before .before in
     let m = s .before .before .before in
     record {
       answer = s .solve-given .result;
       solved = rw (sym (m .mode-at .ensures)) (s .solve-given .ensures);
       number-of = c .answer-number .ensures;
-      can-of = c .before .before .can-flag .ensures;
+      can-of = c .before .before .before .can-flag .ensures;
+      round-of = c .before .before .round-of .ensures;
       place-of = c .before .answer-place .ensures;
     }))

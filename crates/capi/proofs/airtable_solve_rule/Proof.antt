@@ -15,18 +15,20 @@ airtable-solve-rule-spec =
     (λ c κs. search needs)
     (λ c κs. search needs)
     (λ c κs. search needs)
+    (λ c κs. search needs)
     (λ c. search needs)
     (λ c. search needs)
     (λ c. search needs)
     (λ c. search needs)
     (λ c.
-    let s = c .before .before .before .before .before .before .before .before .before .before .before .before in
+    let s = c .before .before .before .before .before .before .before .before .before .before .before .before .before in
     let m = s .before .before .before .before .before in
     record {
       answer = s .solve-rule .result;
       solved = rw (sym (m .mode-at .ensures)) (s .solve-rule .ensures);
       number-of = c .answer-number .ensures;
-      can-of = c .before .before .before .can-flag .ensures;
-      n-of = c .before .before .states-of .ensures;
+      can-of = c .before .before .before .before .can-flag .ensures;
+      n-of = c .before .before .before .states-of .ensures;
+      round-of = c .before .before .round-of .ensures;
       place-of = c .before .answer-place .ensures;
     }))

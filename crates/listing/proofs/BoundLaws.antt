@@ -1,17 +1,17 @@
 -- What the program prints has at most `outputSize` bytes, so that an output of that size holds the whole of it.
 -- Assumes nothing.
-use Prim.Native.Nat.{ℕ, _^_, _≤_, _<_}
+use Prim.Native.Nat.{ℕ, zero, suc, _^_, _≤_, _<_}
 use mathlib.Core.Path.{_≡_, refl, sym, ap, subst, _∙_}
 use mathlib.Core.Bool.{Bool, true, false, cond, _||_}
 use mathlib.Core.Logic.{_⊎_, ⊎-elim}
 use mathlib.Core.List.{List}
 use native.Mathlib.Nat.{min-eq-left}
 use native.Mathlib.Omega.{arith}
-use lib.Dec.{eqb, ltb}
+use lib.Dec.{ltb}
 use lib.ListN.{length, take, drop}
-use lib.Pow.{pow-mono}
+use lib.Pow.{pow-mono, pow-pos}
 use lib.Seq.{take-all, take-append-seam}
-use borrow.Author.Tests.{eqb-true, eqb-false, ltb-false}
+use borrow.Author.Tests.{ne-eqb, ltb-false}
 use Rattle.plays.specs.declared.mode.Mode.{Mode}
 use Rattle.reader.specs.declared.reading.Reading.{Reading}
 use Rattle.reader.specs.declared.reading.Reading.the-variants.{Good, TooLong, Bad, TooManyNodes, TooManyOperators}
@@ -22,17 +22,20 @@ use Rattle.reader.specs.declared.marks.Kind.{Kind}
 use Rattle.reader.specs.Limits.{textLimit, tooLong}
 use Rattle.reader.specs.Reading.{ReadingOf}
 use Rattle.reader.specs.Refusal.{numberOf, placeOf, afterRule, afterCondition}
-use Rattle.reader.proofs.BoolLaws.{on, or-left, or-right}
+use Rattle.reader.proofs.BoolLaws.{or-left, or-right}
 use Rattle.automaton.specs.Alphabet.{badAlphabet}
 use Rattle.automaton.specs.Limits.{stateLimit, numberLimit}
+use Rattle.automaton.specs.Condition.{maskOf}
+use Rattle.plays.specs.Arena.{arena}
+use Rattle.plays.proofs.RoundLaws.{round-bound}
 use Rattle.game.specs.declared.answer.Answer.{Answer}
-use Rattle.game.specs.declared.answer.Answer.the-variants.{Refused}
 use Rattle.game.specs.Answer.{verdictOf}
 use Rattle.game.specs.Rule.{Buffers, shortBuffers, ruleRefusal, RuleServed, RuleSolved}
+use Rattle.game.proofs.RuleLaws.{some-state}
 use Rattle.listing.specs.Listing.{listing, stateLine, canWord, cannotWord}
 use Rattle.listing.specs.Promise.{outputSize, Prints, Listed}
 use Rattle.listing.proofs.LengthLaws.{system-length, environment-length, line-length, verdict-length, refusal-length}
-use Rattle.listing.proofs.PromiseLaws.{no-number, served-states}
+use Rattle.listing.proofs.PromiseLaws.{served-states, served-or-refused}
 
 number-small : (x : Refusal) → numberOf x ≤ 14
 number-small Nothing = omega arith
@@ -100,7 +103,15 @@ module _ {mode : Mode} {i o : ℕ} {rule condition : List ℕ} {old new : Buffer
     few-states : m .states ≤ stateLimit
     few-states = served-states i o rule condition old (m .reading) (m .condition-reading) (m .states) (ap numberOf (sym (m .first)) ∙ z)
 
-    served-line : {can : Bool} → RuleServed mode i o rule condition old new (m .states) can → (s : ℕ) → s < m .states
+    -- the round number is at most n, since the system's table does with n
+    served-round : (k : ℕ) → RuleServed mode i o rule condition old new (m .states) k → k ≤ m .states
+    served-round zero v = omega arith
+    served-round (suc k) v =
+        let G = arena i o (m .states) (new .transitions) (new .accepting) (maskOf (v .assumption) i) in
+        round-bound mode G (new .system) 0 (m .states) (suc k) (some-state (v .automaton)) (pow-pos o) (v .verdict .system (omega arith) .0 .wins)
+        (v .verdict .round)
+
+    served-line : {k : ℕ} → RuleServed mode i o rule condition old new (m .states) k → (s : ℕ) → s < m .states
         → length (stateLine (2 ^ i) (new .accepting) (new .system) (new .environment) s) ≤ 56
     served-line v s h =
         let p = few-inputs in
@@ -112,24 +123,25 @@ module _ {mode : Mode} {i o : ℕ} {rule condition : List ℕ} {old new : Buffer
         (λ w. environment-length (2 ^ i) p (new .system) (new .environment) s (let b = w .byte in omega arith))
         (v .tables .won s h))
 
-    served-length :
-        (can : Bool) → RuleServed mode i o rule condition old new (m .states) can → length (listing i new (verdictOf can (m .states))) ≤ outputSize
-    served-length true v =
-        verdict-length (2 ^ i) (new .accepting) (new .system) (new .environment) canWord (m .states) (omega arith) few-states (served-line v)
-    served-length false v =
-        verdict-length (2 ^ i) (new .accepting) (new .system) (new .environment) cannotWord (m .states) (omega arith) few-states (served-line v)
+    served-length : (k : ℕ) → RuleServed mode i o rule condition old new (m .states) k → length (listing i new (verdictOf (m .states) k)) ≤ outputSize
+    served-length zero v =
+        verdict-length (2 ^ i) (new .accepting) (new .system) (new .environment) cannotWord (m .states) 0 (omega arith) few-states (omega arith)
+        (served-line v)
+    served-length (suc k) v =
+        rw (ne-eqb (suc k) 0 (λ e. omega arith))
+        (verdict-length (2 ^ i) (new .accepting) (new .system) (new .environment) canWord (m .states) (suc k) (omega arith) few-states
+        (served-round (suc k) v) (served-line v))
 
   pub listing-length : length (listing i new r) ≤ outputSize
   listing-length =
-      on (eqb (numberOf (m .refusal)) 0)
-      (λ t.
-      let z : numberOf (m .refusal) ≡ 0 = eqb-true (numberOf (m .refusal)) 0 t in
-      let v = m .served (no-number (m .refusal) z) in
-      subst (λ (x : Answer). length (listing i new x) ≤ outputSize) (sym (v .1)) (served-length z (v .0) (v .2)))
-      (λ f.
-      let e : r ≡ Refused (m .refusal) = m .refused (λ n. eqb-false (numberOf (m .refusal)) 0 f (ap numberOf n)) .0 in
+      ⊎-elim
+      (λ z.
+      let v = m .served z in
+      subst (λ (x : Answer). length (listing i new x) ≤ outputSize) (sym (v .1)) (served-length (ap numberOf z) (v .0) (v .2)))
+      (λ e.
       subst (λ (x : Answer). length (listing i new x) ≤ outputSize) (sym e)
       (refusal-length (numberOf (m .refusal)) (placeOf (m .refusal)) (number-small (m .refusal)) refusal-place))
+      (served-or-refused m)
 
 -- what the program prints is no longer than its output
 pub prints-length : {input text : List ℕ} → Prints input text → length text ≤ outputSize

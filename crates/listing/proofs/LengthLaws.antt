@@ -1,5 +1,5 @@
 -- No listing is longer than `outputSize`: a state's line has at most 56 bytes, since its number has at most three digits, and each of the at most 16 bytes of
--- its row at most two.
+-- its row at most two. The round number is at most n, so that it has at most three digits too.
 -- Assumes nothing.
 use Prim.Native.Nat.{ℕ, zero, suc, _+_, _-_, _*_, _/_, _%_, _≤_, _<_}
 use mathlib.Core.Path.{_≡_, ap, subst, _∙_}
@@ -103,17 +103,20 @@ module _ (inputs : ℕ) (accepting system environment : List ℕ) where
       )
 
   pub verdict-length :
-      (word : List ℕ) (n : ℕ) → length word ≤ 7 → n ≤ stateLimit → ((s : ℕ) → s < n → length (stateLine inputs accepting system environment s) ≤ 56)
-      → length (verdictLines inputs accepting system environment word n) ≤ outputSize
+      (word : List ℕ) (n r : ℕ) → length word ≤ 7 → n ≤ stateLimit → r ≤ n
+      → ((s : ℕ) → s < n → length (stateLine inputs accepting system environment s) ≤ 56)
+      → length (verdictLines inputs accepting system environment word n r) ≤ outputSize
   unfolding verdictLines
-  verdict-length word n w b h =
-      let r : List ℕ = stateLines inputs accepting system environment 0 n in
+  verdict-length word n r w b c h =
+      let l : List ℕ = stateLines inputs accepting system environment 0 n in
       omega (
         arith,
-        length-append word (decimal n ++ ((newline ∷ []) ++ r)),
-        length-append (decimal n) ((newline ∷ []) ++ r),
-        length-append (newline ∷ []) r,
+        length-append word (decimal n ++ ((blank ∷ decimal r) ++ ((newline ∷ []) ++ l))),
+        length-append (decimal n) ((blank ∷ decimal r) ++ ((newline ∷ []) ++ l)),
+        length-append (blank ∷ decimal r) ((newline ∷ []) ++ l),
+        length-append (newline ∷ []) l,
         decimal-three n (omega arith),
+        decimal-three r (omega arith),
         lines-length n h 0 n (omega arith),
       )
 

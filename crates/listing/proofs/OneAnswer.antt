@@ -3,13 +3,13 @@
 -- Assumes nothing.
 use Prim.Native.Nat.{ℕ, _^_, min}
 use mathlib.Core.Path.{_≡_, sym, ap, ap₂, _∙_, subst, subst₂}
-use mathlib.Core.Bool.{Bool, true, false}
 use mathlib.Core.List.{List, _++_}
 use mathlib.Core.Logic.{_⊎_, ⊎-elim}
 use lib.ListN.{length, take, drop, take-append-drop}
 use Rattle.plays.specs.declared.mode.Mode.{Mode}
+use Rattle.reader.specs.declared.refusal.Refusal.{Refusal}
 use Rattle.game.specs.declared.answer.Answer.{Answer}
-use Rattle.game.specs.declared.answer.Answer.the-variants.{Can, Cannot, Refused}
+use Rattle.game.specs.declared.answer.Answer.the-variants.{Refused}
 use Rattle.game.specs.Answer.{verdictOf}
 use Rattle.game.specs.Rule.{Buffers}
 use Rattle.game.specs.Agreement.{RuleAgree}
@@ -19,12 +19,13 @@ use Rattle.listing.specs.Listing.{listing}
 use Rattle.listing.specs.Promise.{Answers, Request, Prints, Listed, Responded}
 use Rattle.listing.specs.Agreement.{ListingsAgree, ListedAgree}
 use Rattle.listing.proofs.RequestLaws.{one-request}
+use Rattle.listing.proofs.PromiseLaws.{served-or-refused}
 
 module _ {input : List ℕ} {i o : ℕ} {mode : Mode} {condition rule : List ℕ} (asks : Asks input i o mode condition rule) (text text′ : List ℕ) where
   -- two listings of a verdict
-  both-verdicts : (can : Bool) (n : ℕ) (new new′ : Buffers) (a : Answer) → RuleAgree (2 ^ i) new new′ (verdictOf can n) a
-      → text ≡ listing i new (verdictOf can n) → text′ ≡ listing i new′ a → ListingsAgree input text text′
-  both-verdicts can n new new′ a w e f =
+  both-verdicts : (n round : ℕ) (new new′ : Buffers) (a : Answer) → RuleAgree (2 ^ i) new new′ (verdictOf n round) a
+      → text ≡ listing i new (verdictOf n round) → text′ ≡ listing i new′ a → ListingsAgree input text text′
+  both-verdicts n round new new′ a w e f =
       record {
         i = i;
         o = o;
@@ -32,24 +33,33 @@ module _ {input : List ℕ} {i o : ℕ} {mode : Mode} {condition rule : List ℕ
         condition = condition;
         rule = rule;
         asks = asks;
-        can = can;
         n = n;
+        round = round;
         new = new;
         new′ = new′;
-        agree = subst (λ (b : Answer). RuleAgree (2 ^ i) new new′ (verdictOf can n) b) (sym (w .answer)) w;
+        agree = subst (λ (b : Answer). RuleAgree (2 ^ i) new new′ (verdictOf n round) b) (sym (w .answer)) w;
         listed = e;
         listed′ = f ∙ ap (listing i new′) (sym (w .answer));
       }
 
-  -- two listings, by the first answer
-  both-listings : (new new′ : Buffers) (a b : Answer) → RuleAgree (2 ^ i) new new′ a b
-      → text ≡ listing i new a → text′ ≡ listing i new′ b → (text ≡ text′) ⊎ ListingsAgree input text text′
-  both-listings new new′ (Can n) b w e f = _⊎_.inr (both-verdicts true n new new′ b w e f)
-  both-listings new new′ (Cannot n) b w e f = _⊎_.inr (both-verdicts false n new new′ b w e f)
-  both-listings new new′ (Refused x) b w e f = _⊎_.inl (e ∙ sym (f ∙ ap (listing i new′) (sym (w .answer))))
+  -- two listings of a refusal
+  both-refusals : (x : Refusal) (new new′ : Buffers) (a : Answer) → Refused x ≡ a → text ≡ listing i new (Refused x) → text′ ≡ listing i new′ a → text ≡ text′
+  both-refusals x new new′ a w e f = e ∙ sym (f ∙ ap (listing i new′) (sym w))
 
+  -- two listings, by the first answer: a verdict or a refusal
   both-answers : Answers i o mode condition rule text → Answers i o mode condition rule text′ → (text ≡ text′) ⊎ ListingsAgree input text text′
-  both-answers u v = both-listings (u .new) (v .new) (u .answer) (v .answer) (one-rule (u .solved) (v .solved)) (u .listed) (v .listed)
+  both-answers u v =
+      let w = one-rule (u .solved) (v .solved) in
+      let m = u .solved in
+      ⊎-elim
+      (λ z.
+      let s = m .served z in
+      _⊎_.inr (both-verdicts (m .states) (s .0) (u .new) (v .new) (v .answer)
+      (subst (λ (a : Answer). RuleAgree (2 ^ i) (u .new) (v .new) a (v .answer)) (s .1) w)
+      (u .listed ∙ ap (listing i (u .new)) (s .1)) (v .listed)))
+      (λ e.
+      _⊎_.inl (both-refusals (m .refusal) (u .new) (v .new) (v .answer) (sym e ∙ w .answer) (u .listed ∙ ap (listing i (u .new)) e) (v .listed)))
+      (served-or-refused m)
 
 -- a request is read in one way
 both-requests : {input text text′ : List ℕ} → Request input text → Request input text′ → (text ≡ text′) ⊎ ListingsAgree input text text′

@@ -3,7 +3,7 @@
 use Prim.Native.Nat.{ℕ, _+_, _-_, _≤_, min}
 use mathlib.Core.Path.{_≡_, refl, sym, ap, subst, _∙_}
 use mathlib.Core.Bool.{Bool, true, false, cond, _||_}
-use mathlib.Core.Logic.{_⊎_}
+use mathlib.Core.Logic.{_⊎_, ⊎-elim}
 use mathlib.Core.List.{List, _++_}
 use native.Mathlib.Omega.{arith}
 use lib.Dec.{eqb, ltb}
@@ -76,24 +76,30 @@ served-states i o rule condition old ρ κ n e =
     (λ t. absurd (over-refused (badAlphabet i o) (tooLong rule || tooLong condition) (shortBuffers i o old) ρ κ (rw t at e)))
     (λ f. ltb-false stateLimit n f)
 
+-- a call is served, or its answer is the refusal
+pub served-or-refused : {mode : Mode} {i o : ℕ} {rule condition : List ℕ} {old new : Buffers} {r : Answer} (m : RuleSolved mode i o rule condition old new r)
+    → (m .refusal ≡ Nothing) ⊎ (r ≡ Refused (m .refusal))
+served-or-refused m =
+    on (eqb (numberOf (m .refusal)) 0)
+    (λ t. _⊎_.inl (no-number (m .refusal) (eqb-true (numberOf (m .refusal)) 0 t)))
+    (λ f. _⊎_.inr (m .refused (λ n. eqb-false (numberOf (m .refusal)) 0 f (ap numberOf n)) .0))
+
 -- an answer has no more states than the limit
 pub solved-states : {mode : Mode} {i o : ℕ} {rule condition : List ℕ} {old new : Buffers} {r : Answer} → RuleSolved mode i o rule condition old new r
     → answerStates r ≤ stateLimit
 solved-states {mode} {i} {o} {rule} {condition} {old} {new} {r} m =
-    on (eqb (numberOf (m .refusal)) 0)
-    (λ t.
-    let z : numberOf (m .refusal) ≡ 0 = eqb-true (numberOf (m .refusal)) 0 t in
-    let v = m .served (no-number (m .refusal) z) in
-    let e : answerStates r ≡ m .states = ap answerStates (v .1) ∙ verdict-states (v .0) (m .states) in
-    let h = served-states i o rule condition old (m .reading) (m .condition-reading) (m .states) (ap numberOf (sym (m .first)) ∙ z) in
+    ⊎-elim
+    (λ z.
+    let v = m .served z in
+    let e : answerStates r ≡ m .states = ap answerStates (v .1) ∙ verdict-states (m .states) (v .0) in
+    let h = served-states i o rule condition old (m .reading) (m .condition-reading) (m .states) (ap numberOf (sym (m .first) ∙ z)) in
     subst (λ (k : ℕ). k ≤ stateLimit) (sym e) h)
-    (λ f.
-    let e : answerStates r ≡ 0 = ap answerStates (m .refused (λ n. eqb-false (numberOf (m .refusal)) 0 f (ap numberOf n)) .0) in
-    subst (λ (k : ℕ). k ≤ stateLimit) (sym e) (omega arith))
+    (λ e. subst (λ (k : ℕ). k ≤ stateLimit) (sym (ap answerStates e)) (omega arith))
+    (served-or-refused m)
 
 -- the transitions are not listed
 listing-same : (i : ℕ) (t a σ τ : List ℕ) (r : Answer) → listingOf i a σ τ r ≡ listing i (buffers t a σ τ) r
-listing-same i t a σ τ (Can n) = refl
+listing-same i t a σ τ (Can n r) = refl
 listing-same i t a σ τ (Cannot n) = refl
 listing-same i t a σ τ (Refused x) = refl
 

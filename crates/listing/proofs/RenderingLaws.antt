@@ -99,13 +99,15 @@ unfolding stateLine
 line-written inputs accepting system environment s a b c d = joined a (joined b (joined c d))
 
 pub verdict-written :
-    (inputs : ℕ) (accepting system environment word : List ℕ) (n : ℕ) {out out₁ out₂ out₃ out₄ : List ℕ} {at p q t r : ℕ} → Writes out at word out₁ p
+    (inputs : ℕ) (accepting system environment word : List ℕ) (n round : ℕ) {out out₁ out₂ out₃ out₄ out₅ : List ℕ} {at p q t u r : ℕ}
+    → Writes out at word out₁ p
     → Writes out₁ p (decimal n) out₂ q
-    → Writes out₂ q (newline ∷ []) out₃ t
-    → Writes out₃ t (stateLines inputs accepting system environment 0 n) out₄ r
-    → Writes out at (verdictLines inputs accepting system environment word n) out₄ r
+    → Writes out₂ q (blank ∷ decimal round) out₃ t
+    → Writes out₃ t (newline ∷ []) out₄ u
+    → Writes out₄ u (stateLines inputs accepting system environment 0 n) out₅ r
+    → Writes out at (verdictLines inputs accepting system environment word n round) out₅ r
 unfolding verdictLines
-verdict-written inputs accepting system environment word n a b c d = joined a (joined b (joined c d))
+verdict-written inputs accepting system environment word n round a b c d e = joined a (joined b (joined c (joined d e)))
 
 pub refusal-written : (number place : ℕ) {out out₁ out₂ out₃ out₄ : List ℕ} {at p q t r : ℕ} → Writes out at refusedWord out₁ p
     → Writes out₁ p (decimal number) out₂ q → Writes out₂ q (blank ∷ decimal place) out₃ t → Writes out₃ t (newline ∷ []) out₄ r
@@ -132,11 +134,11 @@ row-within s inputs h g = mul-le-mul {n₂ = stateLimit} {m₂ = rowLimit} (omeg
 
 -- the listing of each answer
 module _ (i : ℕ) (a σ τ : List ℕ) (x : Answer) {out out′ : List ℕ} {r : ℕ} where
-  pub can-listed : (inputs n : ℕ) → x ≡ Can n → inputs ≡ 2 ^ i → Writes out 0 (verdictLines inputs a σ τ canWord n) out′ r
+  pub can-listed : (inputs n round : ℕ) → x ≡ Can n round → inputs ≡ 2 ^ i → Writes out 0 (verdictLines inputs a σ τ canWord n round) out′ r
       → Writes out 0 (listingOf i a σ τ x) out′ r
-  can-listed inputs n e f w = rw (e, ← f) w
+  can-listed inputs n round e f w = rw (e, ← f) w
 
-  pub cannot-listed : (inputs n : ℕ) → x ≡ Cannot n → inputs ≡ 2 ^ i → Writes out 0 (verdictLines inputs a σ τ cannotWord n) out′ r
+  pub cannot-listed : (inputs n : ℕ) → x ≡ Cannot n → inputs ≡ 2 ^ i → Writes out 0 (verdictLines inputs a σ τ cannotWord n 0) out′ r
       → Writes out 0 (listingOf i a σ τ x) out′ r
   cannot-listed inputs n e f w = rw (e, ← f) w
 

@@ -5,7 +5,6 @@
 -- Assumes nothing.
 use Prim.Native.Nat.{ℕ, _^_, min}
 use mathlib.Core.Path.{_≡_}
-use mathlib.Core.Bool.{Bool}
 use mathlib.Core.List.{_++_}
 use mathlib.Core.Logic.{_⊎_}
 use lib.ListN.{length, take, drop}
@@ -17,7 +16,7 @@ use Rattle.game.specs.Agreement.{RuleAgree}
 use Rattle.listing.specs.Input.{Asks}
 use Rattle.listing.specs.Listing.{listing}
 
--- the input is a request with i inputs, and both texts are listings of one verdict on n states over buffers that agree
+-- the input is a request with i inputs, and both texts are listings of one verdict, on n states with one round number, over buffers that agree
 pub record ListingsAgree (input text text′ : Text) : Type 0 where
   pub i : ℕ
   pub o : ℕ
@@ -25,13 +24,13 @@ pub record ListingsAgree (input text text′ : Text) : Type 0 where
   pub condition : Text
   pub rule : Text
   pub asks : Asks input i o mode condition rule
-  pub can : Bool
   pub n : ℕ
+  pub round : ℕ
   pub new : Buffers
   pub new′ : Buffers
-  pub agree : RuleAgree (2 ^ i) new new′ (verdictOf can n) (verdictOf can n)
-  pub listed : text ≡ listing i new (verdictOf can n)
-  pub listed′ : text′ ≡ listing i new′ (verdictOf can n)
+  pub agree : RuleAgree (2 ^ i) new new′ (verdictOf n round) (verdictOf n round)
+  pub listed : text ≡ listing i new (verdictOf n round)
+  pub listed′ : text′ ≡ listing i new′ (verdictOf n round)
 
 -- the output begins with the text as far as it fits, the rest of it is as it was, and r says how much of it is the text's
 pub record Shows (text output output′ : Text) (r : ℕ) : Type 0 where

@@ -1,5 +1,5 @@
--- What the program prints (specification, "Program"), as a function of the answer and of the buffers that the call leaves: the verdict and n,
--- then a line for each state, or the refusal's number and place. Fields are parted by one blank and each line ends with 0x0A.
+-- What the program prints (specification, "Program"), as a function of the answer and of the buffers that the call leaves: the verdict, n and the round
+-- number, then a line for each state, or the refusal's number and place. Fields are parted by one blank and each line ends with 0x0A.
 -- Assumes nothing.
 use Prim.Native.Nat.{ℕ, zero, suc, _*_, _^_}
 use mathlib.Core.Bool.{Bool, cond}
@@ -62,15 +62,15 @@ stateLines inputs accepting system environment s (suc count) =
 unfoldable pub refusalLine : (number place : ℕ) → Text
 refusalLine number place = refusedWord ++ (decimal number ++ ((blank ∷ decimal place) ++ (newline ∷ [])))
 
--- a verdict's lines: its word, n, and the n states
-unfoldable pub verdictLines : (inputs : ℕ) (accepting : List ℕ) (system environment : Table) (word : Text) (n : ℕ) → Text
-verdictLines inputs accepting system environment word n =
-    word ++ (decimal n ++ ((newline ∷ []) ++ stateLines inputs accepting system environment 0 n))
+-- a verdict's lines: its word, n, the round number r, and the n states
+unfoldable pub verdictLines : (inputs : ℕ) (accepting : List ℕ) (system environment : Table) (word : Text) (n r : ℕ) → Text
+verdictLines inputs accepting system environment word n r =
+    word ++ (decimal n ++ ((blank ∷ decimal r) ++ ((newline ∷ []) ++ stateLines inputs accepting system environment 0 n)))
 
--- the whole listing, with i inputs
-abbrev pub listing : (i : ℕ) (tables : Buffers) (r : Answer) → Text
-listing i tables (Can n) = verdictLines (2 ^ i) (tables .accepting) (tables .system) (tables .environment) canWord n
-listing i tables (Cannot n) = verdictLines (2 ^ i) (tables .accepting) (tables .system) (tables .environment) cannotWord n
+-- the whole listing, with i inputs; "cannot" has the round number 0
+abbrev pub listing : (i : ℕ) (tables : Buffers) (answer : Answer) → Text
+listing i tables (Can n r) = verdictLines (2 ^ i) (tables .accepting) (tables .system) (tables .environment) canWord n r
+listing i tables (Cannot n) = verdictLines (2 ^ i) (tables .accepting) (tables .system) (tables .environment) cannotWord n 0
 listing i tables (Refused x) = refusalLine (numberOf x) (placeOf x)
 
 -- refusal 14, which only the program has: the input is no request

@@ -126,11 +126,12 @@ fn put_states(
     end
 }
 
-// Writes a verdict: its word, the number of states and their lines.
+// Writes a verdict: its word, the number of states, the round number and the states' lines.
 fn put_verdict(
     out: &mut [u8],
     word: &[u8],
     n: usize,
+    round: usize,
     inputs: usize,
     accepting: &[u8],
     system: &[u8],
@@ -138,11 +139,12 @@ fn put_verdict(
 ) -> usize
     requires { ⌜ (n ≤ stateLimit) × (inputs ≤ rowLimit) ⌝ }
     ensures { λ r. ⌜ Writes (now (out .entry)) 0 (verdictLines inputs (now (accepting .entry)) (now (system .entry))
-        (now (environment .entry)) (now (word .entry)) n) (now (out .exit)) r ⌝ }
+        (now (environment .entry)) (now (word .entry)) n round) (now (out .exit)) r ⌝ }
 {
     let a = put_word(out, 0, word);
     let b = put_decimal(out, a, n);
-    let e = put(out, b, 10);
+    let f = put_field(out, b, round);
+    let e = put(out, f, 10);
     put_states(out, e, n, inputs, accepting, system, environment)
 }
 
@@ -178,11 +180,12 @@ pub(crate) fn put_listing(
         (now (environment .entry)) answer) (now (out .exit)) r ⌝ }
 {
     match answer {
-        Answer::Can(n) => {
+        Answer::Can(n, round) => {
             return put_verdict(
                 out,
                 b"can ",
                 n,
+                round,
                 input_count(i),
                 accepting,
                 system,
@@ -194,6 +197,7 @@ pub(crate) fn put_listing(
                 out,
                 b"cannot ",
                 n,
+                0,
                 input_count(i),
                 accepting,
                 system,

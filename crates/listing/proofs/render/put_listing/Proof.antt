@@ -26,9 +26,9 @@ put-listing-spec =
     (λ c. search needs)
     (λ c.
     let z = c .before .before .before .before .before .before .before .before .before .before .before .before .before .args in
+    let a = c .before .before .before .before .before .before .before .answer .given in
     can-listed (z .i) (now (z .accepting)) (now (z .system)) (now (z .environment)) (z .answer) (c .before .before .before .input-count .result)
-    (c .before .before .before .before .before .before .before .answer .given .0 .0)
-    (c .before .before .before .before .before .before .before .answer .given .1) (c .before .before .before .input-count .ensures .0)
+    (a .0 .0) (a .0 .1 .0) (a .1) (c .before .before .before .input-count .ensures .0)
     (c .before .before .put-verdict .ensures))
     (λ c. search needs)
     (λ c. search needs)

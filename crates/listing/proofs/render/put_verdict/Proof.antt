@@ -14,11 +14,14 @@ put-verdict-spec =
     (λ c κs. search needs)
     (λ c κs. search needs)
     (λ c κs. search needs)
+    (λ c κs. search needs)
     (λ c. search needs)
     (λ c.
-    let e = c .before .before .before .before .before .before .before .before .before .before .before .before .before .before in
+    let d = c .before .before .before .before .before .before .before .before .before .before .before .before .before .before in
+    let e = d .before .before .before .before in
     let z = e .before .before .before .before .before .before .before .args in
-    verdict-written (z .inputs) (now (z .accepting)) (now (z .system)) (now (z .environment)) (now (z .word)) (z .n)
+    verdict-written (z .inputs) (now (z .accepting)) (now (z .system)) (now (z .environment)) (now (z .word)) (z .n) (z .round)
     (e .put-word .ensures)
-    (c .before .before .before .before .before .before .before .before .before .before .put-decimal .ensures)
+    (d .put-decimal .ensures)
+    (c .before .before .before .before .before .before .before .before .before .before .put-field .ensures)
     (c .before .before .before .before .before .before .put .ensures) (c .before .before .put-states .ensures)))

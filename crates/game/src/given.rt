@@ -10,6 +10,7 @@ ghost use Rattle.game.specs.inner.Game.{arenaAt};
 ghost use Rattle.game.specs.inner.Checks.{InRange};
 ghost use Rattle.game.specs.Given.{shortTables, laterRefusal, givenRefusal, GivenSolved};
 use crate::answer::Answer;
+use crate::answer::verdict;
 use crate::arena::Sizes;
 use crate::checks::bad_count;
 use crate::checks::game_of;
@@ -143,8 +144,6 @@ pub fn solve_given(
         return Answer::Refused(refusal);
     };
     let g = game_of(mode, mask, n, i, o);
-    if decide(g, transitions, accepting, start, system, environment) {
-        return Answer::Can(n);
-    }
-    Answer::Cannot(n)
+    let round = decide(g, transitions, accepting, start, system, environment);
+    verdict(n, round)
 }

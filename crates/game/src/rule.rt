@@ -6,6 +6,7 @@ ghost use Rattle.automaton.specs.Alphabet.{badAlphabet};
 ghost use Rattle.game.specs.Rule.{Buffers, buffers, shortBuffers, RuleSolved};
 ghost use Rattle.game.specs.inner.RuleChecks.{RuleChecked};
 use crate::answer::Answer;
+use crate::answer::verdict;
 use crate::checks::game_of;
 use crate::tables::decide;
 use automaton::alphabet::bad_alphabet;
@@ -154,10 +155,8 @@ pub fn solve_rule(
         Construction::Refused(x) => Answer::Refused(x),
         Construction::Built(n) => {
             let g = game_of(mode, checked.mask, n, i, o);
-            if decide(g, transitions, accepting, 0, system, environment) {
-                return Answer::Can(n);
-            }
-            Answer::Cannot(n)
+            let round = decide(g, transitions, accepting, 0, system, environment);
+            verdict(n, round)
         }
     }
 }

@@ -16,6 +16,7 @@ ghost use Rattle.game.specs.inner.Bytes.{
   FirstStop,
   IsSafe,
   SystemByte,
+  MixedByte,
   EnvironmentByte,
   SystemFilled,
   EnvironmentFilled,
@@ -131,7 +132,7 @@ fn system_byte(
     x: usize,
 ) -> u8
     requires { ⌜ Valid (arenaOf g (now transitions) (now accepting)) ⌝ }
-    requires { ⌜ Ranked (arenaOf g (now transitions) (now accepting)) true (g .fair) (now ranks) ⌝ }
+    requires { ⌜ Ranked (arenaOf g (now transitions) (now accepting)) true (g .fair) (g .states) (now ranks) ⌝ }
     requires { ⌜ (s < stateLimit) × (x < g .inputs) ⌝ }
     ensures { λ r. ⌜ SystemByte (g .fair) (arenaOf g (now (transitions .entry)) (now (accepting .entry))) (now (ranks .entry)) s x r ⌝ }
 {
@@ -155,7 +156,7 @@ fn first_input(
     s: usize,
 ) -> usize
     requires { ⌜ Valid (arenaOf g (now transitions) (now accepting)) ⌝ }
-    requires { ⌜ Ranked (arenaOf g (now transitions) (now accepting)) false (not (g .fair)) (now ranks) ⌝ }
+    requires { ⌜ Ranked (arenaOf g (now transitions) (now accepting)) false (not (g .fair)) (g .states) (now ranks) ⌝ }
     requires { ⌜ (s < g .states) × (0 < own) × (own ≡ getD (now ranks) s 0) ⌝ }
     ensures { λ r. ⌜ EnvironmentByte (g .fair) (arenaOf g (now (transitions .entry)) (now (accepting .entry))) (now (ranks .entry)) s r ⌝ }
 {
@@ -182,7 +183,7 @@ fn environment_byte(
     s: usize,
 ) -> u8
     requires { ⌜ Valid (arenaOf g (now transitions) (now accepting)) ⌝ }
-    requires { ⌜ Ranked (arenaOf g (now transitions) (now accepting)) false (not (g .fair)) (now ranks) ⌝ }
+    requires { ⌜ Ranked (arenaOf g (now transitions) (now accepting)) false (not (g .fair)) (g .states) (now ranks) ⌝ }
     requires { ⌜ s < stateLimit ⌝ }
     ensures { λ r. ⌜ EnvironmentByte (g .fair) (arenaOf g (now (transitions .entry)) (now (accepting .entry))) (now (ranks .entry)) s r ⌝ }
 {
@@ -194,18 +195,42 @@ fn environment_byte(
     x as u8
 }
 
+// The system's byte for state s and input x: by the near ranks where s has one, else by the far ones.
+fn mixed_byte(
+    g: Game,
+    transitions: &[u8],
+    accepting: &[u8],
+    near: &[Rank; STATE_LIMIT],
+    far: &[Rank; STATE_LIMIT],
+    s: usize,
+    x: usize,
+) -> u8
+    requires { ⌜ Valid (arenaOf g (now transitions) (now accepting)) ⌝ }
+    requires { ⌜ Ranked (arenaOf g (now transitions) (now accepting)) true (g .fair) (g .states) (now near) ⌝ }
+    requires { ⌜ Ranked (arenaOf g (now transitions) (now accepting)) true (g .fair) (g .states) (now far) ⌝ }
+    requires { ⌜ (s < stateLimit) × (x < g .inputs) ⌝ }
+    ensures { λ r. ⌜ MixedByte (g .fair) (arenaOf g (now (transitions .entry)) (now (accepting .entry))) (now (near .entry)) (now (far .entry)) s x r ⌝ }
+{
+    if near[s] == 0 {
+        return system_byte(g, transitions, accepting, far, s, x);
+    }
+    system_byte(g, transitions, accepting, near, s, x)
+}
+
 // Fills the system's table, for as many states as the limit.
 fn fill_system(
     g: Game,
     transitions: &[u8],
     accepting: &[u8],
-    ranks: &[Rank; STATE_LIMIT],
+    near: &[Rank; STATE_LIMIT],
+    far: &[Rank; STATE_LIMIT],
     system: &mut [u8],
 )
     requires { ⌜ Valid (arenaOf g (now transitions) (now accepting)) ⌝ }
-    requires { ⌜ Ranked (arenaOf g (now transitions) (now accepting)) true (g .fair) (now ranks) ⌝ }
+    requires { ⌜ Ranked (arenaOf g (now transitions) (now accepting)) true (g .fair) (g .states) (now near) ⌝ }
+    requires { ⌜ Ranked (arenaOf g (now transitions) (now accepting)) true (g .fair) (g .states) (now far) ⌝ }
     requires { ⌜ (0 < g .inputs) × (stateLimit * g .inputs ≤ length (now system)) ⌝ }
-    ensures { λ _. ⌜ SystemFilled (g .fair) (arenaOf g (now (transitions .entry)) (now (accepting .entry))) (now (ranks .entry))
+    ensures { λ _. ⌜ SystemFilled (g .fair) (arenaOf g (now (transitions .entry)) (now (accepting .entry))) (now (near .entry)) (now (far .entry))
         (now (system .entry)) (now (system .exit)) ⌝ }
 {
     let inputs = g.inputs;
@@ -214,7 +239,7 @@ fn fill_system(
     while k < total {
         let s = k / inputs;
         let x = k % inputs;
-        system[k] = system_byte(g, transitions, accepting, ranks, s, x);
+        system[k] = mixed_byte(g, transitions, accepting, near, far, s, x);
         k += 1;
     }
 }
@@ -228,7 +253,7 @@ fn fill_environment(
     environment: &mut [u8],
 )
     requires { ⌜ Valid (arenaOf g (now transitions) (now accepting)) ⌝ }
-    requires { ⌜ Ranked (arenaOf g (now transitions) (now accepting)) false (not (g .fair)) (now ranks) ⌝ }
+    requires { ⌜ Ranked (arenaOf g (now transitions) (now accepting)) false (not (g .fair)) (g .states) (now ranks) ⌝ }
     requires { ⌜ stateLimit ≤ length (now environment) ⌝ }
     ensures { λ _. ⌜ EnvironmentFilled (g .fair) (arenaOf g (now (transitions .entry)) (now (accepting .entry))) (now (ranks .entry))
         (now (environment .entry)) (now (environment .exit)) ⌝ }
@@ -245,22 +270,26 @@ fn fill(
     g: Game,
     transitions: &[u8],
     accepting: &[u8],
-    system_ranks: &[Rank; STATE_LIMIT],
+    near: &[Rank; STATE_LIMIT],
+    far: &[Rank; STATE_LIMIT],
     environment_ranks: &[Rank; STATE_LIMIT],
     system: &mut [u8],
     environment: &mut [u8],
 )
     requires { ⌜ Valid (arenaOf g (now transitions) (now accepting)) ⌝ }
-    requires { ⌜ Ranking (g .fair) (arenaOf g (now transitions) (now accepting)) (now «system_ranks») (now «environment_ranks») ⌝ }
+    requires { ⌜ Ranked (arenaOf g (now transitions) (now accepting)) true (g .fair) (g .states) (now near) ⌝ }
+    requires { ⌜ Ranking (g .fair) (arenaOf g (now transitions) (now accepting)) (now far) (now «environment_ranks») ⌝ }
     requires { ⌜ (0 < g .inputs) × (stateLimit * g .inputs ≤ length (now system)) × (stateLimit ≤ length (now environment)) ⌝ }
-    ensures { λ _. ⌜ Tables (modeOf (g .fair)) (arenaOf g (now (transitions .entry)) (now (accepting .entry)))
-        (now (system .entry)) (now (environment .entry)) (now (system .exit)) (now (environment .exit)) ⌝ }
+    ensures { λ _. ⌜ SystemFilled (g .fair) (arenaOf g (now (transitions .entry)) (now (accepting .entry))) (now (near .entry)) (now (far .entry))
+        (now (system .entry)) (now (system .exit)) ⌝ }
+    ensures { λ _. ⌜ EnvironmentFilled (g .fair) (arenaOf g (now (transitions .entry)) (now (accepting .entry))) (now («environment_ranks» .entry))
+        (now (environment .entry)) (now (environment .exit)) ⌝ }
 {
-    fill_system(g, transitions, accepting, system_ranks, system);
+    fill_system(g, transitions, accepting, near, far, system);
     fill_environment(g, transitions, accepting, environment_ranks, environment);
 }
 
-// Solves the game, fills both tables and says whether the system wins from the start.
+// Solves the game, fills both tables and gives the round number of the start, which is 0 where the system does not win from it.
 pub(crate) fn decide(
     g: Game,
     transitions: &[u8],
@@ -268,26 +297,28 @@ pub(crate) fn decide(
     start: usize,
     system: &mut [u8],
     environment: &mut [u8],
-) -> bool
+) -> usize
     requires { ⌜ Valid (arenaOf g (now transitions) (now accepting)) ⌝ }
     requires { ⌜ start < g .states ⌝ }
-    requires { ⌜ (0 < g .inputs) × (stateLimit * g .inputs ≤ length (now system)) × (stateLimit ≤ length (now environment)) ⌝ }
+    requires { ⌜ (0 < g .inputs) × (0 < g .outputs) × (stateLimit * g .inputs ≤ length (now system)) × (stateLimit ≤ length (now environment)) ⌝ }
     ensures { λ r. ⌜ Tables (modeOf (g .fair)) (arenaOf g (now (transitions .entry)) (now (accepting .entry)))
         (now (system .entry)) (now (environment .entry)) (now (system .exit)) (now (environment .exit)) ⌝ }
     ensures { λ r. ⌜ Verdict (modeOf (g .fair)) (arenaOf g (now (transitions .entry)) (now (accepting .entry)))
         (now (system .exit)) (now (environment .exit)) start r ⌝ }
 {
-    let ranks = solve(g, transitions, accepting);
-    let system_ranks = ranks.system;
-    let environment_ranks = ranks.environment;
+    let solution = solve(g, transitions, accepting, start);
+    let near = solution.near;
+    let far = solution.system;
+    let environment_ranks = solution.environment;
     fill(
         g,
         transitions,
         accepting,
-        &system_ranks,
+        &near,
+        &far,
         &environment_ranks,
         system,
         environment,
     );
-    environment[start] == NO_MOVE
+    solution.round as usize
 }

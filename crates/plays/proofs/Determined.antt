@@ -1,7 +1,7 @@
 -- No state is won by a table of the system's and by one of the environment's, whatever the two tables (lists of bytes, that is positional strategies):
 -- so the arena and the mode determine a verdict, and a state's winner, that comes with its table.
--- A play that follows both strategies for n times n steps falls into n stretches of n steps. If the environment keeps its assumption, the system's
--- is met on it, so that it reaches a goal, which the environment avoids.
+-- A play that follows both strategies for k times n steps, where the system wins with the number k, falls into k stretches of n steps, or n of k. If the
+-- environment keeps its assumption, the condition comes k times on it, so that it reaches a goal, which the environment avoids.
 -- Assumes nothing.
 use Prim.Native.Nat.{ℕ, zero, suc, _+_, _*_, _<_, _≤_}
 use mathlib.Core.Path.{_≡_, refl, sym, ap, _∙_, subst}
@@ -9,7 +9,7 @@ use mathlib.Core.Bool.{Bool, true, false}
 use mathlib.Core.List.{List, [], _∷_, _++_}
 use mathlib.Core.Logic.{_⊎_, ⊎-elim}
 use native.Mathlib.Omega.{arith}
-use native.Mathlib.Nat.{suc-mul}
+use native.Mathlib.Nat.{suc-mul, mul-comm}
 use lib.ListN.{length, take, drop, take-append-drop, length-drop}
 use lib.Seq.{length-take-le}
 use Rattle.machine.specs.Run.{run}
@@ -52,10 +52,10 @@ row-or-many c d o k (suc m) p l =
 
 -- ---- winning survives a step that enters no goal
 
-assumed-later : (mode : Mode) (G : Arena) (a : Step) (p : List Step) → Assumed mode G p → Assumed mode G (a ∷ p)
+assumed-later : (mode : Mode) (G : Arena) (k : ℕ) (a : Step) (p : List Step) → Assumed mode G k p → Assumed mode G k (a ∷ p)
 unfolding count
-assumed-later Fair G a p h = on (holds G (a .input)) (λ e. rw e (omega arith)) (λ e. rw e h)
-assumed-later Stable G a p h = row-later (holds G) (G .states) (a ∷ []) p h
+assumed-later Fair G k a p h = on (holds G (a .input)) (λ e. rw e (omega arith)) (λ e. rw e h)
+assumed-later Stable G k a p h = row-later (holds G) k (a ∷ []) p h
 
 failed-later : (mode : Mode) (G : Arena) (a : Step) (p : List Step) → Failed mode G p → Failed mode G (a ∷ p)
 unfolding count
@@ -63,12 +63,12 @@ failed-later Fair G a p h = row-later (lacks G) (G .states) (a ∷ []) p h
 failed-later Stable G a p h = on (lacks G (a .input)) (λ e. rw e (omega arith)) (λ e. rw e h)
 
 module _ (mode : Mode) (G : Arena) where
-  pub system-later : (σ : List ℕ) (s : ℕ) (a : Step) → BySystem G σ s a → goal G (entered G s a) ≡ false → SystemWins mode G σ s
-      → SystemWins mode G σ (entered G s a)
+  pub system-later : (k : ℕ) (σ : List ℕ) (s : ℕ) (a : Step) → BySystem G σ s a → goal G (entered G s a) ≡ false → SystemWins mode G k σ s
+      → SystemWins mode G k σ (entered G s a)
   unfolding Along run
-  system-later σ s a h e w =
+  system-later k σ s a h e w =
       record {
-        reaching = λ p l m. sym (reaches-later G s a p e) ∙ w .reaching (a ∷ p) (h, l) (assumed-later mode G a p m);
+        reaching = λ p l m. sym (reaches-later G s a p e) ∙ w .reaching (a ∷ p) (h, l) (assumed-later mode G k a p m);
         answers = λ p l m. w .answers (a ∷ p) (h, l) (reaches-later G s a p e ∙ m);
       }
 
@@ -97,26 +97,26 @@ module _ (G : Arena) (σ τ : List ℕ) where
   both-long zero s = refl
   both-long (suc k) s = ap suc (both-long k (entered G s (both-step s)))
 
-  module _ (mode : Mode) where
-    legal : (s : ℕ) → SystemWins mode G σ s → EnvironmentWins mode G τ s → BySystem G σ s (both-step s) × ByEnvironment G τ s (both-step s)
+  module _ (mode : Mode) (n : ℕ) where
+    legal : (s : ℕ) → SystemWins mode G n σ s → EnvironmentWins mode G τ s → BySystem G σ s (both-step s) × ByEnvironment G τ s (both-step s)
     unfolding Along reaches run
     legal s w v =
         let x = v .answers [] tt in
         let y = w .answers [] tt refl (environmentByte τ s) x in
         (((x, y), refl), ((x, y), refl))
 
-    avoided : (s : ℕ) → SystemWins mode G σ s → EnvironmentWins mode G τ s → goal G (entered G s (both-step s)) ≡ false
+    avoided : (s : ℕ) → SystemWins mode G n σ s → EnvironmentWins mode G τ s → goal G (entered G s (both-step s)) ≡ false
     unfolding Along reaches
     avoided s w v = or-left (goal G (entered G s (both-step s))) false (v .avoiding (both-step s ∷ []) (legal s w v .1, tt))
 
-    both-along : (k s : ℕ) → SystemWins mode G σ s → EnvironmentWins mode G τ s
+    both-along : (k s : ℕ) → SystemWins mode G n σ s → EnvironmentWins mode G τ s
         → Along G (BySystem G σ) s (both-play k s) × Along G (ByEnvironment G τ) s (both-play k s)
     unfolding Along both-play
     both-along zero s w v = (tt, tt)
     both-along (suc k) s w v =
         let l = legal s w v in
         let e = avoided s w v in
-        let r = both-along k (entered G s (both-step s)) (system-later mode G σ s (both-step s) (l .0) e w)
+        let r = both-along k (entered G s (both-step s)) (system-later mode G n σ s (both-step s) (l .0) e w)
         (environment-later mode G τ s (both-step s) (l .1) e v) in
         ((l .0, r .0), (l .1, r .1))
 
@@ -127,17 +127,17 @@ lacks-holds G x e = on (holds G x) (λ t. t) (λ f. clash (lacks G x) (rw f) e)
 holds-lacks : (G : Arena) (x : ℕ) → holds G x ≡ false → lacks G x ≡ true
 holds-lacks G x e = rw e
 
-failed-or-assumed : (mode : Mode) (G : Arena) (p : List Step) → length p ≡ G .states * G .states → Failed mode G p ⊎ Assumed mode G p
-failed-or-assumed Fair G p l = row-or-many (lacks G) (holds G) (lacks-holds G) (G .states) (G .states) p l
-failed-or-assumed Stable G p l =
-    ⊎-elim (λ r. _⊎_.inr r) (λ m. _⊎_.inl m) (row-or-many (holds G) (lacks G) (holds-lacks G) (G .states) (G .states) p l)
+pub failed-or-assumed : (mode : Mode) (G : Arena) (k : ℕ) (p : List Step) → length p ≡ k * G .states → Failed mode G p ⊎ Assumed mode G k p
+failed-or-assumed Fair G k p l = row-or-many (lacks G) (holds G) (lacks-holds G) (G .states) k p l
+failed-or-assumed Stable G k p l =
+    ⊎-elim (λ r. _⊎_.inr r) (λ m. _⊎_.inl m) (row-or-many (holds G) (lacks G) (holds-lacks G) k (G .states) p (l ∙ mul-comm k (G .states)))
 
 -- no state is won by both players
-pub one-winner : (mode : Mode) (G : Arena) (σ τ : List ℕ) (s : ℕ) → SystemWins mode G σ s → EnvironmentWins mode G τ s → ⊥
-one-winner mode G σ τ s w v =
-    let p : List Step = both-play G σ τ (G .states * G .states) s in
-    let h = both-along G σ τ mode (G .states * G .states) s w v in
+pub one-winner : (mode : Mode) (G : Arena) (k : ℕ) (σ τ : List ℕ) (s : ℕ) → SystemWins mode G k σ s → EnvironmentWins mode G τ s → ⊥
+one-winner mode G k σ τ s w v =
+    let p : List Step = both-play G σ τ (k * G .states) s in
+    let h = both-along G σ τ mode k (k * G .states) s w v in
     ⊎-elim
     (λ f. v .keeping p (h .1) f)
     (λ m. clash (reaches G s p) (w .reaching p (h .0) m) (v .avoiding p (h .1)))
-    (failed-or-assumed mode G p (both-long G σ τ (G .states * G .states) s))
+    (failed-or-assumed mode G k p (both-long G σ τ (k * G .states) s))

@@ -141,14 +141,14 @@ few-finally omniscience c d o (suc b) f few =
 -- ---- the two promises
 
 module _ (G : Arena) where
-  -- a promise that is kept for ever is met in some beginning
-  pub assumed : (mode : Mode) (f : ℕ → Step) → Promised mode G (inputs f) → (k : ℕ) × Assumed mode G (first f k)
-  assumed Fair f again = often (holds G) (G .states) f again
-  assumed Stable f always =
+  -- on a play on which a promise is kept for ever the condition has come n times in some beginning
+  pub assumed : (mode : Mode) (n : ℕ) (f : ℕ → Step) → Promised mode G (inputs f) → (k : ℕ) × Assumed mode G n (first f k)
+  assumed Fair n f again = often (holds G) n f again
+  assumed Stable n f always =
       let m = always .0 in
       let held : (j : ℕ) → holds G (from m f j .input) ≡ true =
       λ j. subst (λ (a : Step). holds G (a .input) ≡ true) (sym (from-is m f j)) (always .1 (m + j) (omega arith)) in
-      (m + G .states, row-from (holds G) f m (G .states) (every-first (holds G) (from m f) held (G .states)))
+      (m + n, row-from (holds G) f m n (every-first (holds G) (from m f) held n))
 
   holds-unless : (x : ℕ) → lacks G x ≡ false → holds G x ≡ true
   holds-unless x e = not-false→ (holds G x) e

@@ -5,3 +5,4 @@ pub mod RankLaws
 pub mod Determined
 pub mod EndlessLaws
 pub mod WayLaws
+pub mod BeatenLaws

@@ -1,5 +1,6 @@
 -- From ranks, which speak of one step, to strategies, which speak of every play: along a play that follows the ranks and enters no goal
--- the rank stays above 0, never grows where the ranks are steady, and falls at every judged input; so there are fewer than n of these.
+-- the rank stays above 0, never grows where the ranks are steady, and falls at every judged input; so there are fewer of these than the first rank, where the
+-- ranks are steady, and fewer in a row than the largest.
 -- Assumes nothing.
 use Prim.Native.Nat.{ℕ, _+_, _<_, _≤_}
 use mathlib.Core.Path.{_≡_, refl, sym, subst}
@@ -21,14 +22,18 @@ abbrev Often : Bool → (ℕ → Bool) → ℕ → List Step → Type 0
 Often true c n p = n ≤ count c p
 Often false c n p = InRow c n p
 
-often-cases : (steady : Bool) (c : ℕ → Bool) (n : ℕ) (p : List Step) → Often steady c n p → ((steady ≡ true) × (n ≤ count c p)) ⊎ InRow c n p
+often-cases : (steady : Bool) (c : ℕ → Bool) (n : ℕ) (p : List Step) → Often steady c n p
+    → ((steady ≡ true) × (n ≤ count c p)) ⊎ ((steady ≡ false) × InRow c n p)
 often-cases true c n p h = _⊎_.inl (refl, h)
-often-cases false c n p h = _⊎_.inr h
+often-cases false c n p h = _⊎_.inr (refl, h)
 
--- Steps that R allows go down the player's ranks r, which are at most n.
+-- what the ranks have to be for the number n from state s: the state's own at most n where they are steady, and else all of them
+abbrev pub Within : Bool → List ℕ → ℕ → ℕ → Type 0
+Within steady r n s = (steady ≡ true → getD r s 0 ≤ n) × (steady ≡ false → (t : ℕ) → getD r t 0 ≤ n)
+
+-- Steps that R allows go down the player's ranks r.
 module _ (G : Arena) (R : ℕ → Step → Type 0) (player steady : Bool) (r : List ℕ)
-    (falls : (s : ℕ) (a : Step) → 0 < getD r s 0 → R s a → goal G (entered G s a) ≡ false → Falls G player steady r s (a .input) (entered G s a))
-    (bound : (s : ℕ) → getD r s 0 ≤ G .states) where
+    (falls : (s : ℕ) (a : Step) → 0 < getD r s 0 → R s a → goal G (entered G s a) ≡ false → Falls G player steady r s (a .input) (entered G s a)) where
   -- a play that reaches no goal stands on a state with a rank
   pub stays : (s : ℕ) (p : List Step) → 0 < getD r s 0 → Along G R s p → reaches G s p ≡ false → 0 < getD r (standsOn G s p) 0
   unfolding Along run
@@ -56,8 +61,9 @@ module _ (G : Arena) (R : ℕ → Step → Type 0) (player steady : Bool) (r : L
       let rest = count-falls t (entered G s a) p (d .0) (h .1) (others-avoid G s a p e) in
       ⊎-elim (λ j. rw j (omega (arith, rest, d .1 j))) (λ j. rw j (omega (arith, rest, d .2 t))) (decided (judged G player (a .input)))
 
-  no-row : (s : ℕ) (p : List Step) → 0 < getD r s 0 → Along G R s p → reaches G s p ≡ false → InRow (judged G player) (G .states) p → ⊥
-  no-row s p w h e v =
+  no-row : (n : ℕ) → ((t : ℕ) → getD r t 0 ≤ n) → (s : ℕ) (p : List Step) → 0 < getD r s 0 → Along G R s p → reaches G s p ≡ false
+      → InRow (judged G player) n p → ⊥
+  no-row n bound s p w h e v =
       let h′ : Along G R s (v .before ++ (v .row ++ v .rest)) = subst (λ q. Along G R s q) (v .whole) h in
       let e′ : reaches G s (v .before ++ (v .row ++ v .rest)) ≡ false = subst (λ q. reaches G s q ≡ false) (v .whole) e in
       let s₁ : ℕ = standsOn G s (v .before) in
@@ -66,18 +72,18 @@ module _ (G : Arena) (R : ℕ → Step → Type 0) (player steady : Bool) (r : L
       let e₁ = avoids-left G s₁ (v .row) (v .rest) (avoids-right G s (v .before) (v .row ++ v .rest) e′) in
       omega (arith, row-falls s₁ (v .row) w₁ h₁ e₁ (v .all), bound s₁, stays s₁ (v .row) w₁ h₁ e₁, v .long)
 
-  -- no play that reaches no goal has n judged inputs, in all or in a row
-  not-often : (s : ℕ) (p : List Step) → 0 < getD r s 0 → Along G R s p → reaches G s p ≡ false → Often steady (judged G player) (G .states) p → ⊥
-  not-often s p w h e o =
+  -- no play that reaches no goal has n judged inputs, in all, where the first rank is at most n, or in a row, where all are
+  not-often : (n s : ℕ) (p : List Step) → Within steady r n s → 0 < getD r s 0 → Along G R s p → reaches G s p ≡ false → Often steady (judged G player) n p → ⊥
+  not-often n s p bound w h e o =
       ⊎-elim
-      (λ q. omega (arith, count-falls (q .0) s p w h e, q .1, bound s, stays s p w h e))
-      (no-row s p w h e)
-      (often-cases steady (judged G player) (G .states) p o)
+      (λ q. omega (arith, count-falls (q .0) s p w h e, q .1, bound .0 (q .0), stays s p w h e))
+      (λ q. no-row n (bound .1 (q .0)) s p w h e (q .1))
+      (often-cases steady (judged G player) n p o)
 
 -- what makes the mode's claim on a play, as a count of judged inputs
-assumed-often : (fair : Bool) (G : Arena) (p : List Step) → Assumed (modeOf fair) G p → Often fair (judged G true) (G .states) p
-assumed-often true G p h = h
-assumed-often false G p h = h
+assumed-often : (fair : Bool) (G : Arena) (n : ℕ) (p : List Step) → Assumed (modeOf fair) G n p → Often fair (judged G true) n p
+assumed-often true G n p h = h
+assumed-often false G n p h = h
 
 failed-often : (fair : Bool) (G : Arena) (p : List Step) → Failed (modeOf fair) G p → Often (not fair) (judged G false) (G .states) p
 failed-often true G p h = h
@@ -88,7 +94,7 @@ no-goal b e (_⊎_.inl t) = clash b t e
 no-goal b e (_⊎_.inr d) = d
 
 -- the system's table holds an output that the ranks allow for each state with a rank
-module _ (fair : Bool) (G : Arena) (σ r : List ℕ) (bound : (s : ℕ) → getD r s 0 ≤ G .states)
+module _ (fair : Bool) (G : Arena) (σ r : List ℕ)
     (allowed : (s : ℕ) → 0 < getD r s 0 → (x : ℕ) → x < G .inputs → AllowedOutput fair G r s x (systemByte G σ s x)) where
   system-falls : (s : ℕ) (a : Step) → 0 < getD r s 0 → BySystem G σ s a → goal G (entered G s a) ≡ false → Falls G true fair r s (a .input) (entered G s a)
   system-falls s a w h e =
@@ -96,12 +102,12 @@ module _ (fair : Bool) (G : Arena) (σ r : List ℕ) (bound : (s : ℕ) → getD
       (subst (λ (y : ℕ). Safe G true (next G s (a .input) y) (Falls G true fair r s (a .input) (next G s (a .input) y))) (sym (h .1))
       (allowed s w (a .input) (h .0 .0) .1))
 
-  pub system-wins : (s : ℕ) → 0 < getD r s 0 → SystemWins (modeOf fair) G σ s
-  system-wins s w =
+  pub system-wins : (n s : ℕ) → Within fair r n s → 0 < getD r s 0 → SystemWins (modeOf fair) G n σ s
+  system-wins n s bound w =
       record {
         reaching = λ p h o. not-false-is-true (reaches G s p)
-            (λ e. not-often G (BySystem G σ) true fair r system-falls bound s p w h e (assumed-often fair G p o));
-        answers = λ p h e x l. allowed (standsOn G s p) (stays G (BySystem G σ) true fair r system-falls bound s p w h e) x l .0;
+            (λ e. not-often G (BySystem G σ) true fair r system-falls n s p bound w h e (assumed-often fair G n p o));
+        answers = λ p h e x l. allowed (standsOn G s p) (stays G (BySystem G σ) true fair r system-falls s p w h e) x l .0;
       }
 
 -- the environment's table holds an input that the ranks allow for each state with a rank
@@ -126,6 +132,7 @@ module _ (fair : Bool) (G : Arena) (τ r : List ℕ) (bound : (s : ℕ) → getD
   environment-wins s w =
       record {
         avoiding = λ p h. avoids s p w h;
-        keeping = λ p h o. not-often G (ByEnvironment G τ) false (not fair) r environment-falls bound s p w h (avoids s p w h) (failed-often fair G p o);
-        answers = λ p h. allowed (standsOn G s p) (stays G (ByEnvironment G τ) false (not fair) r environment-falls bound s p w h (avoids s p w h)) .0;
+        keeping = λ p h o. not-often G (ByEnvironment G τ) false (not fair) r environment-falls (G .states) s p
+            ((λ _. bound s), (λ _. bound)) w h (avoids s p w h) (failed-often fair G p o);
+        answers = λ p h. allowed (standsOn G s p) (stays G (ByEnvironment G τ) false (not fair) r environment-falls s p w h (avoids s p w h)) .0;
       }

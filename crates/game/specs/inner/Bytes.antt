@@ -63,9 +63,14 @@ pub record EnvironmentByte (fair : Bool) (G : Arena) (r : List ℕ) (s b : ℕ) 
   pub none : getD r s 0 ≡ 0 → b ≡ noMove
   pub allowed : 0 < getD r s 0 → AllowedInput fair G r s b
 
+-- the system's byte by two ranks: by the near ones on a state that has one, else by the far ones
+pub record MixedByte (fair : Bool) (G : Arena) (near far : List ℕ) (s x b : ℕ) : Type 0 where
+  pub by-near : 0 < getD near s 0 → AllowedOutput fair G near s x b
+  pub by-far : getD near s 0 ≡ 0 → SystemByte fair G far s x b
+
 -- the system's table in a buffer that held σ₀
-pub record SystemFilled (fair : Bool) (G : Arena) (r σ₀ σ : List ℕ) : Type 0 where
-  pub byte : (k : ℕ) → k < stateLimit * G .inputs → SystemByte fair G r (k / G .inputs) (k % G .inputs) (getD σ k 0)
+pub record SystemFilled (fair : Bool) (G : Arena) (near far σ₀ σ : List ℕ) : Type 0 where
+  pub byte : (k : ℕ) → k < stateLimit * G .inputs → MixedByte fair G near far (k / G .inputs) (k % G .inputs) (getD σ k 0)
   pub beyond : (k : ℕ) → stateLimit * G .inputs ≤ k → getD σ k 0 ≡ getD σ₀ k 0
   pub size : length σ ≡ length σ₀
 

@@ -16,17 +16,18 @@ use Rattle.plays.specs.inner.Rank.{isFair}
 use Rattle.readings.specs.Lists.{transitionsOf, flagsOf}
 use Rattle.readings.specs.Row.{Row, lettersOf, arenaFor}
 use Rattle.readings.proofs.Tree.{Tree, formulaOf, readsBy}
-use Rattle.readings.proofs.Test.{winsOf}
+use Rattle.readings.proofs.Test.{roundOf}
 
--- how the rule and the condition are read, and the winner's table and ranks
+-- how the rule and the condition are read, the winner's table and ranks, and inputs that beat the system with one less than the round number
 pub record Certificate : Type 0 where
   pub rule : Tree
   pub condition : Tree
   pub table : List ℕ
   pub ranks : List ℕ
+  pub inputs : List ℕ
 
-abbrev pub certificate : Tree → Tree → List ℕ → List ℕ → Certificate
-certificate rule condition table ranks = record { rule = rule; condition = condition; table = table; ranks = ranks }
+abbrev pub certificate : Tree → Tree → List ℕ → List ℕ → List ℕ → Certificate
+certificate rule condition table ranks inputs = record { rule = rule; condition = condition; table = table; ranks = ranks; inputs = inputs }
 
 -- i and o are in range
 unfoldable pub alphabetPasses : Row → Bool
@@ -49,12 +50,12 @@ unfoldable pub countPasses : Row → Formula → Bool
 unfolding machine.numberOfStates
 countPasses r φ = eqb (r .count) (numberOfStates φ (lettersOf r)) && leb (r .count) stateLimit
 
--- the winner's ranks are a certificate on the arena whose lists and mask are computed from the definitions
+-- the winner's ranks and the inputs are a certificate on the arena whose lists and mask are computed from the definitions
 unfoldable pub winnerPasses : Row → Certificate → Formula → Formula → Bool
-unfolding winsOf transitionsOf flagsOf maskOf
+unfolding roundOf transitionsOf flagsOf maskOf
 winnerPasses r c φ κ =
-    winsOf (r .can) (isFair (r .mode)) (arenaFor r (transitionsOf φ (lettersOf r)) (flagsOf φ (lettersOf r)) (maskOf κ (r .inputs))) (c .table)
-    (c .ranks)
+    roundOf (r .round) (isFair (r .mode)) (arenaFor r (transitionsOf φ (lettersOf r)) (flagsOf φ (lettersOf r)) (maskOf κ (r .inputs))) (c .table)
+    (c .ranks) (c .inputs)
 
 -- the test, over the two formulas
 unfoldable pub passesWith : Row → Certificate → Formula → Formula → Bool

@@ -23,6 +23,9 @@ use Rattle.automaton.specs.Automaton.{Automaton}
 use Rattle.automaton.specs.Condition.{maskOf, Judges}
 use Rattle.automaton.specs.Discovery.{numberOfStates}
 use Rattle.automaton.proofs.ConditionLaws.{mask-judges}
+use Rattle.plays.specs.Arena.{Arena}
+use Rattle.plays.specs.Round.{RoundNumber}
+use Rattle.plays.specs.Endless.{Reaching}
 use Rattle.plays.specs.inner.Rank.{isFair}
 use Rattle.plays.proofs.ModeLaws.{same-mode}
 use Rattle.readings.specs.Lists.{transitionsOf, flagsOf}
@@ -30,7 +33,7 @@ use Rattle.readings.specs.Row.{Row, lettersOf, arenaFor, VerdictOn, RowH
 use Rattle.readings.proofs.Tree.{formulaOf, readsBy}
 use Rattle.readings.proofs.TreeLaws.{reads}
 use Rattle.readings.proofs.ListLaws.{computed}
-use Rattle.readings.proofs.TestLaws.{WinsFrom, won, verdict}
+use Rattle.readings.proofs.TestLaws.{WinsFrom, won, numbered, verdict}
 use Rattle.readings.proofs.Certificate.{Certificate, alphabetPasses, textsPass, sizesPass, countPasses, winnerPasses, passesWith, passes, allPass}
 
 -- two masks that judge as the condition does agree
@@ -117,20 +120,31 @@ module _ (r : Row) (c : Certificate) (e : passes r c ≡ true) where
 
   -- lists that hold the automaton, and a mask that judges as the condition does
   module _ (t f : List ℕ) (m : ℕ) (B : Automaton φ L (r .count) t f) (J : Judges κ i m) where
+    abbrev G : Arena
+    G = arenaFor r t f m
+
     -- the start has a rank, and the certificate's table wins from every state that has one
-    all-won : (0 < getD (c .ranks) 0 0) × ((s : ℕ) → 0 < getD (c .ranks) s 0 → WinsFrom (r .can) (r .mode) (arenaFor r t f m) (c .table) s)
+    all-won : (0 < getD (c .ranks) 0 0) × ((s : ℕ) → 0 < getD (c .ranks) s 0 → WinsFrom (r .round) (r .mode) G (c .table) s)
     unfolding winnerPasses
     all-won =
-        subst (λ (d : Mode). (0 < getD (c .ranks) 0 0) × ((s : ℕ) → 0 < getD (c .ranks) s 0 → WinsFrom (r .can) d (arenaFor r t f m) (c .table) s))
+        subst (λ (d : Mode). (0 < getD (c .ranks) 0 0) × ((s : ℕ) → 0 < getD (c .ranks) s 0 → WinsFrom (r .round) d G (c .table) s))
         (same-mode (r .mode))
         (won i (r .outputs) φ (r .count) (maskOf κ i) m (transitionsOf φ L) (flagsOf φ L) t f held B (judge-alike κ i m (maskOf κ i) J judged-so)
-        (r .can) (isFair (r .mode)) (c .table) (c .ranks) (parts .4))
+        (isFair (r .mode)) (c .table) (c .ranks) (c .inputs) (r .round) (parts .4))
 
-    pub ranked-won : (s : ℕ) → 0 < getD (c .ranks) s 0 → WinsFrom (r .can) (r .mode) (arenaFor r t f m) (c .table) s
+    pub ranked-won : (s : ℕ) → 0 < getD (c .ranks) s 0 → WinsFrom (r .round) (r .mode) G (c .table) s
     ranked-won = all-won .1
 
-    start-won : VerdictOn (r .can) (r .mode) φ (arenaFor r t f m)
-    start-won = verdict i (r .outputs) φ (r .count) m t f B (r .can) (r .mode) (c .table) (all-won .1 0 (all-won .0))
+    -- the row's number is the game's round number
+    start-numbered : RoundNumber (r .mode) G (Reaching G 0) (r .round)
+    unfolding winnerPasses
+    start-numbered =
+        subst (λ (d : Mode). RoundNumber d G (Reaching G 0) (r .round)) (same-mode (r .mode))
+        (numbered i (r .outputs) φ (r .count) (maskOf κ i) m (transitionsOf φ L) (flagsOf φ L) t f held B (judge-alike κ i m (maskOf κ i) J judged-so)
+        (isFair (r .mode)) (c .table) (c .ranks) (c .inputs) (r .round) (parts .4))
+
+    start-won : VerdictOn (r .round) (r .mode) φ G
+    start-won = verdict i (r .outputs) φ (r .count) m t f B (r .round) (r .mode) (c .table) (all-won .1 0 (all-won .0)) start-numbered
 
   -- a row whose certificate passes holds
   pub reading : RowHolds r

@@ -37,7 +37,7 @@ use Rattle.readings.specs.Lists.{listOf, transitionsOn, transitionsOf, f
 use Rattle.readings.specs.Row.{Row, rowOf, arenaFor}
 use Rattle.readings.specs.Example.{exampleInput, exampleListing}
 use Rattle.readings.proofs.Tree.{single, prefixed, flat, formulaOf, fits, sameBytes, readsBy}
-use Rattle.readings.proofs.Test.{below, stepOf, outputOf, inputOf, bytesOf, stateOf, winsOf}
+use Rattle.readings.proofs.Test.{below, stepOf, outputOf, inputOf, bytesOf, stateOf, winsOf, roundOf}
 use Rattle.machine.proofs.OneAutomaton.{one-move, one-flag}
 use Rattle.readings.proofs.Certificate.{Certificate, certificate, alphabetPasses, textsPass, sizesPass, countPasses, winnerPasses, passesWith, passes}
 use Rattle.readings.proofs.CertificateLaws.{held, ranked-won, reading, reading-formulas}
@@ -45,17 +45,17 @@ use Rattle.readings.proofs.Answers.{Held, answered}
 use Rattle.readings.proofs.StateLaws.{other-byte}
 use Rattle.readings.proofs.LineLaws.{environment-line, system-line}
 
--- the example as a row: Fa, fair 1, with i = 1 and o = 0: cannot, 3
+-- the example as a row: Fa, fair 1, with i = 1 and o = 0: cannot, 3, 0
 abbrev example : Row
-example = rowOf 1 0 (70 ∷ 97 ∷ []) Fair (49 ∷ []) false 3
+example = rowOf 1 0 (70 ∷ 97 ∷ []) Fair (49 ∷ []) 3 0
 
 -- the environment never gives a
 abbrev never : Certificate
-never = certificate (prefixed 70 (single 97)) (single 49) (0 ∷ 0 ∷ []) (1 ∷ 1 ∷ [])
+never = certificate (prefixed 70 (single 97)) (single 49) (0 ∷ 0 ∷ []) (1 ∷ 1 ∷ []) []
 
 -- the row's certificate passes
 passed : passes example never ≡ true
-unfolding passes passesWith alphabetPasses textsPass sizesPass countPasses winnerPasses readsBy sameBytes fits formulaOf flat winsOf stateOf
+unfolding passes passesWith alphabetPasses textsPass sizesPass countPasses winnerPasses readsBy sameBytes fits formulaOf flat roundOf winsOf stateOf
     bytesOf inputOf outputOf stepOf below next goal holds maskOf flagsOf flagsOn transitionsOf transitionsOn listOf numberOfStates states discovered
     look target extend position accepts after start vectors endVector present ends coords value gather ofBits bit withoutBlanks binaryOf unaryOf
     operandOf markKind amongOf isTemporalMark allowedBy kindIn operators size
@@ -79,7 +79,7 @@ unfolding formulaOf flagsOf flagsOn listOf numberOfStates states discovered look
 flags-are = refl
 
 -- what a served call leaves in the buffers
-module _ (old new : Buffers) (h : Held example φ κ old new false) where
+module _ (old new : Buffers) (h : Held example φ κ old new 0) where
   abbrev G : Arena
   G = arenaFor example (new .transitions) (new .accepting) (h .mask)
 
@@ -116,7 +116,7 @@ module _ (old new : Buffers) (h : Held example φ κ old new false) where
   byte-0 s l rank e =
       ⊎-elim
       (λ w.
-      absurd (one-winner Fair G (new .system) (never .table) s (w .wins)
+      absurd (one-winner Fair G (G .states) (new .system) (never .table) s (w .wins)
       (ranked-won example never passed (new .transitions) (new .accepting) (h .mask) (h .automaton) (h .judges) s rank)))
       (not-1 s l e)
       (h .tables .won s l)
@@ -156,7 +156,7 @@ answers-listing : (text : List ℕ) → Answers 1 0 Fair (49 ∷ []) (70 ∷ 97 
 answers-listing text q =
     let e = reading-formulas example never passed in
     let w = answered example (reading example never passed) lent (q .new) (q .answer) long-enough (q .solved) in
-    let h : Held example φ κ lent (q .new) false = subst₂ (λ (f k : Formula). Held example f k lent (q .new) false) (e .0) (e .1) (w .1) in
+    let h : Held example φ κ lent (q .new) 0 = subst₂ (λ (f k : Formula). Held example f k lent (q .new) 0) (e .0) (e .1) (w .1) in
     q .listed ∙ ap (λ (x : Answer). listing 1 (q .new) x) (w .0) ∙ lines lent (q .new) h
 
 -- the four lines are a request
@@ -196,17 +196,17 @@ printed-example {output} {output′} {r} l =
     subst (λ (text : List ℕ). (output′ ≡ take (length output) text ++ drop (length text) output) × (r ≡ min (length text) (length output)))
     (prints-listing (l .text) (l .prints)) (l .written, l .count)
 
--- an output of at least its 35 bytes holds the whole of it
-pub printed-whole : {output output′ : List ℕ} {r : ℕ} → Listed exampleInput output output′ r → 35 ≤ length output
-    → (r ≡ 35) × (output′ ≡ exampleListing ++ drop 35 output)
+-- an output of at least its 37 bytes holds the whole of it
+pub printed-whole : {output output′ : List ℕ} {r : ℕ} → Listed exampleInput output output′ r → 37 ≤ length output
+    → (r ≡ 37) × (output′ ≡ exampleListing ++ drop 37 output)
 unfolding exampleListing
 printed-whole {output} {output′} {r} l h =
     let w = printed-example l in
-    (w .1 ∙ min-eq-left h, w .0 ∙ ap (λ (t : List ℕ). t ++ drop 35 output) (take-all (length output) exampleListing h))
+    (w .1 ∙ min-eq-left h, w .0 ∙ ap (λ (t : List ℕ). t ++ drop 37 output) (take-all (length output) exampleListing h))
 
 -- the promise of the program's call where what was read is the four lines: it answers with the whole of the listing
 pub printed-response : {bytes output output′ : List ℕ} {got r : ℕ} → take got bytes ≡ exampleInput → Responded bytes got output output′ r
-    → (r ≡ 35) × (take r output′ ≡ exampleListing)
+    → (r ≡ 37) × (take r output′ ≡ exampleListing)
 unfolding exampleListing
 printed-response {bytes} {output} {output′} {got} {r} e x =
     let t : x .text ≡ exampleListing = prints-listing (x .text) (subst (λ (i : List ℕ). Prints i (x .text)) e (x .prints)) in

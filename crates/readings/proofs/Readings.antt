@@ -17,7 +17,7 @@ use Rattle.readings.specs.Lists.{listOf, transitionsOn, transitionsOf, f
 use Rattle.readings.specs.Row.{RowHolds, All}
 use Rattle.readings.specs.Rows.{rows}
 use Rattle.readings.proofs.Tree.{Tree, single, prefixed, grouped, joined, flat, formulaOf, fits, sameBytes, readsBy}
-use Rattle.readings.proofs.Test.{below, stepOf, outputOf, inputOf, bytesOf, stateOf, winsOf}
+use Rattle.readings.proofs.Test.{below, stepOf, outputOf, inputOf, bytesOf, stateOf, winsOf, beatenOf, roundOf}
 use Rattle.readings.proofs.Certificate.{Certificate, certificate, alphabetPasses, textsPass, sizesPass}
 use Rattle.readings.proofs.Certificate.{countPasses, winnerPasses, passesWith, passes, allPass}
 use Rattle.readings.proofs.CertificateLaws.{all-readings}
@@ -39,36 +39,37 @@ p = single 112
 abbrev twice : Tree
 twice = prefixed 70 (grouped (joined 1 a 38 (prefixed 88 a)))
 
--- for each row how its texts are read, and the winner's table and ranks up to the last state that has a rank
+-- for each row how its texts are read, the winner's table and ranks up to the last state that has a rank, and inputs that beat the system with one less than
+-- the round number, which are none where that is 0
 certificates : List Certificate
 certificates =
     -- Fp: p at once
-    certificate (prefixed 70 p) ever (1 ∷ 1 ∷ []) (1 ∷ [])
+    certificate (prefixed 70 p) ever (1 ∷ 1 ∷ []) (1 ∷ []) []
     -- Fa: the environment never gives a
-    ∷ certificate (prefixed 70 a) ever (0 ∷ 0 ∷ []) (1 ∷ 1 ∷ [])
+    ∷ certificate (prefixed 70 a) ever (0 ∷ 0 ∷ []) (1 ∷ 1 ∷ []) []
     -- fair a: it has to
-    ∷ certificate (prefixed 70 a) a (0 ∷ 0 ∷ 0 ∷ 0 ∷ []) (1 ∷ 1 ∷ [])
+    ∷ certificate (prefixed 70 a) a (0 ∷ 0 ∷ 0 ∷ 0 ∷ []) (1 ∷ 1 ∷ []) []
     -- fair 0: the condition never holds
-    ∷ certificate (prefixed 70 a) never (0 ∷ 0 ∷ 0 ∷ 0 ∷ []) (1 ∷ 1 ∷ [])
+    ∷ certificate (prefixed 70 a) never (0 ∷ 0 ∷ 0 ∷ 0 ∷ []) (1 ∷ 1 ∷ []) []
     -- Ga: the environment leaves a out once, and gives it from then on
-    ∷ certificate (prefixed 71 a) a (0 ∷ 1 ∷ []) (2 ∷ 1 ∷ [])
+    ∷ certificate (prefixed 71 a) a (0 ∷ 1 ∷ []) (2 ∷ 1 ∷ []) []
     -- F(a&Xa), fair: the environment gives a at every other step
-    ∷ certificate twice a (1 ∷ 1 ∷ 0 ∷ []) (1 ∷ 1 ∷ 2 ∷ [])
-    -- stable: two in a row have to come
-    ∷ certificate twice a (0 ∷ 0 ∷ 0 ∷ 0 ∷ 0 ∷ 0 ∷ []) (2 ∷ 2 ∷ 1 ∷ [])
+    ∷ certificate twice a (1 ∷ 1 ∷ 0 ∷ []) (1 ∷ 1 ∷ 2 ∷ []) []
+    -- stable: two in a row have to come, and one step with a is not enough
+    ∷ certificate twice a (0 ∷ 0 ∷ 0 ∷ 0 ∷ 0 ∷ 0 ∷ []) (2 ∷ 2 ∷ 1 ∷ []) (1 ∷ [])
     -- Xa: the environment never gives a
-    ∷ certificate (prefixed 88 a) ever (0 ∷ 0 ∷ 0 ∷ []) (1 ∷ 1 ∷ 1 ∷ [])
+    ∷ certificate (prefixed 88 a) ever (0 ∷ 0 ∷ 0 ∷ []) (1 ∷ 1 ∷ 1 ∷ []) []
     -- Na: any first step will do
-    ∷ certificate (prefixed 78 a) ever (0 ∷ 0 ∷ []) (1 ∷ [])
+    ∷ certificate (prefixed 78 a) ever (0 ∷ 0 ∷ []) (1 ∷ []) []
     -- a&p|!a&!p: the output repeats the input, which was seen
-    ∷ certificate (joined 2 (joined 1 a 38 p) 124 (joined 1 (prefixed 33 a) 38 (prefixed 33 p))) ever (0 ∷ 1 ∷ []) (1 ∷ [])
+    ∷ certificate (joined 2 (joined 1 a 38 p) 124 (joined 1 (prefixed 33 a) 38 (prefixed 33 p))) ever (0 ∷ 1 ∷ []) (1 ∷ []) []
     -- pUa: p until a comes
-    ∷ certificate (joined 0 p 85 a) a (1 ∷ 0 ∷ 255 ∷ 255 ∷ 255 ∷ 255 ∷ 1 ∷ 0 ∷ []) (1 ∷ 0 ∷ 0 ∷ 1 ∷ [])
+    ∷ certificate (joined 0 p 85 a) a (1 ∷ 0 ∷ 255 ∷ 255 ∷ 255 ∷ 255 ∷ 1 ∷ 0 ∷ []) (1 ∷ 0 ∷ 0 ∷ 1 ∷ []) []
     ∷ []
 
 pub readings : All RowHolds rows
 unfolding rows certificates allPass passes passesWith alphabetPasses textsPass sizesPass countPasses winnerPasses readsBy sameBytes fits formulaOf
-    flat winsOf stateOf bytesOf inputOf outputOf stepOf below next goal holds maskOf flagsOf flagsOn transitionsOf transitionsOn listOf numberOfStates
+    flat roundOf winsOf beatenOf stateOf bytesOf inputOf outputOf stepOf below next goal holds maskOf flagsOf flagsOn transitionsOf transitionsOn listOf numberOfStates
     states discovered look target extend position accepts after start vectors endVector present ends coords value gather ofBits bit withoutBlanks
     binaryOf unaryOf operandOf markKind amongOf isTemporalMark allowedBy kindIn operators size
 readings = all-readings rows certificates refl

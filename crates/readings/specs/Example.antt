@@ -19,8 +19,8 @@ exampleInput =
 
 unfoldable pub exampleListing : Text
 exampleListing =
-    -- cannot 3
-    99 ∷ 97 ∷ 110 ∷ 110 ∷ 111 ∷ 116 ∷ 32 ∷ 51 ∷ 10
+    -- cannot 3 0
+    99 ∷ 97 ∷ 110 ∷ 110 ∷ 111 ∷ 116 ∷ 32 ∷ 51 ∷ 32 ∷ 48 ∷ 10
     -- 0 - O 0
     ∷ 48 ∷ 32 ∷ 45 ∷ 32 ∷ 79 ∷ 32 ∷ 48 ∷ 10
     -- 1 - O 0

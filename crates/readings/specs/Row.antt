@@ -1,11 +1,11 @@
--- What a row of the specification's "Readings" says: on i, o, the text of a rule, a mode and the text of a condition, the verdict and n.
+-- What a row of the specification's "Readings" says: on i, o, the text of a rule, a mode and the text of a condition, the verdict, n and the round number.
 -- It is said of the texts themselves and by the definitions: the grammar's formulas, the number of reachable states, and the plays on the formula's automaton.
--- Each text has one formula (reader, proofs/Unambiguous: one-formula) and no state is won by both players (plays, proofs/Determined: one-winner),
--- so that "can" excludes "cannot". The rows are checked together, as one theorem (specs/Rows.antt, proofs/Readings.antt).
+-- Each text has one formula (reader, proofs/Unambiguous: one-formula) and no rule has two round numbers (plays, proofs/RoundLaws: one-round), so that one
+-- excludes every other, and "can" excludes "cannot". The rows are checked together, as one theorem (specs/Rows.antt, proofs/Readings.antt).
 -- Assumes nothing.
-use Prim.Native.Nat.{ℕ, _≤_}
+use Prim.Native.Nat.{ℕ, _<_, _≤_}
 use mathlib.Core.Path.{_≡_}
-use mathlib.Core.Bool.{Bool, true, false, _||_}
+use mathlib.Core.Bool.{false, _||_}
 use mathlib.Core.List.{List, [], _∷_}
 use Rattle.reader.specs.Text.{Text}
 use Rattle.reader.specs.Limits.{tooLong}
@@ -22,34 +22,37 @@ use Rattle.plays.specs.declared.mode.Mode.{Mode}
 use Rattle.game.specs.Answer.{verdictOf}
 use Rattle.plays.specs.Arena.{Arena, arena}
 use Rattle.plays.specs.Strategy.{SystemWins, EnvironmentWins, Table}
-use Rattle.game.specs.Rule.{Can, Cannot, Buffers, shortBuffers, RuleSolved}
+use Rattle.plays.specs.Round.{RoundNumber}
+use Rattle.game.specs.Rule.{Satisfied, Can, Cannot, Buffers, shortBuffers, RuleSolved}
 use Rattle.readings.specs.Lists.{transitionsOf, flagsOf}
 
--- a row: i and o, the bytes of a rule, the mode, the bytes of a condition, whether the station can, and n
+-- a row: i and o, the bytes of a rule, the mode, the bytes of a condition, n, and the round number: the station can where it is above 0
 pub record Row : Type 0 where
   pub inputs : ℕ
   pub outputs : ℕ
   pub rule : Text
   pub mode : Mode
   pub condition : Text
-  pub can : Bool
   pub count : ℕ
+  pub round : ℕ
 
-abbrev pub rowOf : (i o : ℕ) (rule : Text) (mode : Mode) (condition : Text) (can : Bool) (n : ℕ) → Row
-rowOf i o rule mode condition can n = record { inputs = i; outputs = o; rule = rule; mode = mode; condition = condition; can = can; count = n }
+abbrev pub rowOf : (i o : ℕ) (rule : Text) (mode : Mode) (condition : Text) (n round : ℕ) → Row
+rowOf i o rule mode condition n round = record { inputs = i; outputs = o; rule = rule; mode = mode; condition = condition; count = n; round = round }
 
 -- a row of the specification's list: there i = o = 1
-abbrev pub row : (rule : Text) (mode : Mode) (condition : Text) (can : Bool) (n : ℕ) → Row
-row rule mode condition can n = rowOf 1 1 rule mode condition can n
+abbrev pub row : (rule : Text) (mode : Mode) (condition : Text) (n round : ℕ) → Row
+row rule mode condition n round = rowOf 1 1 rule mode condition n round
 
 -- the number of its letters
 abbrev pub lettersOf : Row → ℕ
 lettersOf r = letterCount (r .inputs) (r .outputs)
 
--- the verdict on an arena: a table of the system's that wins from the start and keeps the rule, or one of the environment's
-abbrev pub VerdictOn : (can : Bool) (mode : Mode) (φ : Formula) (G : Arena) → Type 0
-VerdictOn true mode φ G = (σ : Table) × SystemWins mode G σ 0 × Can mode φ G σ
-VerdictOn false mode φ G = (τ : Table) × EnvironmentWins mode G τ 0 × Cannot mode φ G τ
+-- the verdict on an arena with the round number r: "can" where r is above 0, by a table of the system's that wins from the start with r and keeps the rule;
+-- "cannot" where r is 0, by one of the environment's. And r is the round number: no way of answering does with a smaller one
+pub record VerdictOn (r : ℕ) (mode : Mode) (φ : Formula) (G : Arena) : Type 0 where
+  pub can : 0 < r → (σ : Table) × SystemWins mode G r σ 0 × Can mode φ G r σ
+  pub cannot : r ≡ 0 → (τ : Table) × EnvironmentWins mode G τ 0 × Cannot mode φ G τ
+  pub round : RoundNumber mode G (Satisfied φ G) r
 
 -- the arena of a row: its numbers, and an automaton's lists and a mask
 abbrev pub arenaFor : (r : Row) (transitions flags : List ℕ) (mask : ℕ) → Arena
@@ -70,19 +73,19 @@ pub record RowHolds (r : Row) : Type 0 where
   pub automaton : Automaton formula (lettersOf r) (r .count) (transitionsOf formula (lettersOf r)) (flagsOf formula (lettersOf r))
   pub verdict :
       (transitions flags : List ℕ) (mask : ℕ) → Automaton formula (lettersOf r) (r .count) transitions flags → Judges assumption (r .inputs) mask
-      → VerdictOn (r .can) (r .mode) formula (arenaFor r transitions flags mask)
+      → VerdictOn (r .round) (r .mode) formula (arenaFor r transitions flags mask)
 
 -- the rule call's promise for the row's texts
 abbrev pub SolvedFor : (r : Row) (old new : Buffers) (answer : Answer) → Type 0
 SolvedFor r old new answer = RuleSolved (r .mode) (r .inputs) (r .outputs) (r .rule) (r .condition) old new answer
 
--- what that promise makes of the row: in buffers that are long enough it answers with this verdict and this n
+-- what that promise makes of the row: in buffers that are long enough it answers with this verdict, this n and this round number
 abbrev pub Answered : Row → Type 0
 Answered r =
     (old new : Buffers) (answer : Answer)
     → shortBuffers (r .inputs) (r .outputs) old ≡ false
     → SolvedFor r old new answer
-    → answer ≡ verdictOf (r .can) (r .count)
+    → answer ≡ verdictOf (r .count) (r .round)
 
 -- P holds of every row of a list
 abbrev pub All : (Row → Type 0) → List Row → Type 0

@@ -1,34 +1,33 @@
--- The rows that the specification ("Readings") marks as proved, each under its texts in letters. proofs/Readings.antt: every row holds.
--- proofs/Answers.antt: so the rule call's promise leaves it no other answer to them. tests/tests/readings.rs reads this list and holds it against the
--- specification's.
+-- The rows that the specification ("Readings") marks as proved, each with n and the round number and under its texts in letters. proofs/Readings.antt: every
+-- row holds. proofs/Answers.antt: so the rule call's promise leaves it no other answer to them. tests/tests/readings.rs reads this list and holds it against
+-- the specification's.
 -- Assumes nothing.
-use mathlib.Core.Bool.{true, false}
 use mathlib.Core.List.{List, [], _∷_}
 use Rattle.plays.specs.declared.mode.Mode.the-variants.{Fair, Stable}
 use Rattle.readings.specs.Row.{Row, row}
 
 unfoldable pub rows : List Row
 rows =
-    -- Fp, fair 1: can, 3
-    row (70 ∷ 112 ∷ []) Fair (49 ∷ []) true 3
-    -- Fa, fair 1: cannot, 3
-    ∷ row (70 ∷ 97 ∷ []) Fair (49 ∷ []) false 3
-    -- Fa, fair a: can, 3
-    ∷ row (70 ∷ 97 ∷ []) Fair (97 ∷ []) true 3
-    -- Fa, fair 0: can, 3
-    ∷ row (70 ∷ 97 ∷ []) Fair (48 ∷ []) true 3
-    -- Ga, stable a: cannot, 3
-    ∷ row (71 ∷ 97 ∷ []) Stable (97 ∷ []) false 3
-    -- F(a&Xa), fair a: cannot, 4
-    ∷ row (70 ∷ 40 ∷ 97 ∷ 38 ∷ 88 ∷ 97 ∷ 41 ∷ []) Fair (97 ∷ []) false 4
-    -- F(a&Xa), stable a: can, 4
-    ∷ row (70 ∷ 40 ∷ 97 ∷ 38 ∷ 88 ∷ 97 ∷ 41 ∷ []) Stable (97 ∷ []) true 4
-    -- Xa, fair 1: cannot, 4
-    ∷ row (88 ∷ 97 ∷ []) Fair (49 ∷ []) false 4
-    -- Na, fair 1: can, 4
-    ∷ row (78 ∷ 97 ∷ []) Fair (49 ∷ []) true 4
-    -- a&p|!a&!p, fair 1: can, 3
-    ∷ row (97 ∷ 38 ∷ 112 ∷ 124 ∷ 33 ∷ 97 ∷ 38 ∷ 33 ∷ 112 ∷ []) Fair (49 ∷ []) true 3
-    -- pUa, fair a: can, 4
-    ∷ row (112 ∷ 85 ∷ 97 ∷ []) Fair (97 ∷ []) true 4
+    -- Fp, fair 1: can, 3, 1
+    row (70 ∷ 112 ∷ []) Fair (49 ∷ []) 3 1
+    -- Fa, fair 1: cannot, 3, 0
+    ∷ row (70 ∷ 97 ∷ []) Fair (49 ∷ []) 3 0
+    -- Fa, fair a: can, 3, 1
+    ∷ row (70 ∷ 97 ∷ []) Fair (97 ∷ []) 3 1
+    -- Fa, fair 0: can, 3, 1
+    ∷ row (70 ∷ 97 ∷ []) Fair (48 ∷ []) 3 1
+    -- Ga, stable a: cannot, 3, 0
+    ∷ row (71 ∷ 97 ∷ []) Stable (97 ∷ []) 3 0
+    -- F(a&Xa), fair a: cannot, 4, 0
+    ∷ row (70 ∷ 40 ∷ 97 ∷ 38 ∷ 88 ∷ 97 ∷ 41 ∷ []) Fair (97 ∷ []) 4 0
+    -- F(a&Xa), stable a: can, 4, 2
+    ∷ row (70 ∷ 40 ∷ 97 ∷ 38 ∷ 88 ∷ 97 ∷ 41 ∷ []) Stable (97 ∷ []) 4 2
+    -- Xa, fair 1: cannot, 4, 0
+    ∷ row (88 ∷ 97 ∷ []) Fair (49 ∷ []) 4 0
+    -- Na, fair 1: can, 4, 1
+    ∷ row (78 ∷ 97 ∷ []) Fair (49 ∷ []) 4 1
+    -- a&p|!a&!p, fair 1: can, 3, 1
+    ∷ row (97 ∷ 38 ∷ 112 ∷ 124 ∷ 33 ∷ 97 ∷ 38 ∷ 33 ∷ 112 ∷ []) Fair (49 ∷ []) 3 1
+    -- pUa, fair a: can, 4, 1
+    ∷ row (112 ∷ 85 ∷ 97 ∷ []) Fair (97 ∷ []) 4 1
     ∷ []

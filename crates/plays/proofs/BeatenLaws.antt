@@ -2,13 +2,13 @@
 -- system is beaten with every budget.
 -- Assumes nothing.
 use Prim.Native.Nat.{ℕ, zero, suc, _-_, _<_, _≤_}
-use mathlib.Core.Path.{_≡_, refl, sym, subst}
+use mathlib.Core.Path.{_≡_, refl, subst}
 use mathlib.Core.Bool.{Bool, true, false}
 use mathlib.Core.List.{List}
 use native.Mathlib.Omega.{arith}
 use lib.ListN.{getD}
-use Rattle.plays.specs.Arena.{Arena, next, goal, holds}
-use Rattle.plays.specs.inner.Rank.{judged, Falls, Ranked}
+use Rattle.plays.specs.Arena.{Arena, next, holds}
+use Rattle.plays.specs.inner.Rank.{Falls, Ranked}
 use Rattle.plays.specs.inner.Beaten.{left, Beaten, over, forced}
 use Rattle.reader.proofs.BoolLaws.{on}
 
@@ -25,7 +25,8 @@ beaten-less fair G m j lower s k (over e) l le = let z : l ≡ 0 = omega arith i
 beaten-less fair G m j lower s k (forced x legal undone rest) l le =
     forced x legal undone
     (λ y h.
-    beaten-less fair G m j lower (next G s x y) (left fair m (holds G x) k) (rest y h) (left fair j (holds G x) l) (left-less fair m j lower (holds G x) k l le))
+    beaten-less fair G m j lower (next G s x y) (left fair m (holds G x) k) (rest y h) (left fair j (holds G x) l)
+    (left-less fair m j lower (holds G x) k l le))
 
 -- a budget that is the limit goes down with it
 pub beaten-limit : (fair : Bool) (G : Arena) (m : ℕ) (s : ℕ) → Beaten fair G m s m → (k : ℕ) → k ≤ m → Beaten fair G k s k

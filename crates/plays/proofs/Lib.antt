@@ -6,3 +6,5 @@ pub mod Determined
 pub mod EndlessLaws
 pub mod WayLaws
 pub mod BeatenLaws
+pub mod RoundLaws
+pub mod KeyLaws

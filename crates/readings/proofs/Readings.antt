@@ -69,9 +69,9 @@ certificates =
 
 pub readings : All RowHolds rows
 unfolding rows certificates allPass passes passesWith alphabetPasses textsPass sizesPass countPasses winnerPasses readsBy sameBytes fits formulaOf
-    flat roundOf winsOf beatenOf stateOf bytesOf inputOf outputOf stepOf below next goal holds maskOf flagsOf flagsOn transitionsOf transitionsOn listOf numberOfStates
-    states discovered look target extend position accepts after start vectors endVector present ends coords value gather ofBits bit withoutBlanks
-    binaryOf unaryOf operandOf markKind amongOf isTemporalMark allowedBy kindIn operators size
+    flat roundOf winsOf beatenOf stateOf bytesOf inputOf outputOf stepOf below next goal holds maskOf flagsOf flagsOn transitionsOf transitionsOn
+    listOf numberOfStates states discovered look target extend position accepts after start vectors endVector present ends coords value gather ofBits
+    bit withoutBlanks binaryOf unaryOf operandOf markKind amongOf isTemporalMark allowedBy kindIn operators size
 readings = all-readings rows certificates refl
 
 -- as many as the specification marks

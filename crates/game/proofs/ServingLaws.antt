@@ -8,7 +8,7 @@ use native.Mathlib.Omega.{arith}
 use lib.ListN.{getD}
 use borrow.Author.Tests.{eq-eqb, ne-eqb}
 use Rattle.plays.specs.Arena.{Arena, next, goal, holds}
-use Rattle.plays.specs.inner.Rank.{Safe, Forces}
+use Rattle.plays.specs.inner.Rank.{Forces}
 use Rattle.game.specs.inner.Solver.{servingAt, FirstUnserved, Favorable}
 use Rattle.reader.proofs.BoolLaws.{clash, not-true→, or-left, or-right}
 

@@ -25,11 +25,11 @@ served g transitions accepting won safe limits s x y =
     serving (arenaOf g transitions accepting) (rankedBelow (limits .won) won) (safeBelow (limits .inside) (limits .safe) safe) s x y
 
 abbrev Inv-loop : tie.InvT-loop
-Inv-loop g transitions accepting won safe limits s witness inputs outputs x at judged y₀ tried₀ y tried =
+Inv-loop g transitions accepting won safe limits s witness inputs outputs x at holds y₀ tried₀ y tried =
     Tried (served g transitions accepting won safe limits s x) (g .outputs) tried y
 
 abbrev μ-loop : tie.MeasureT-loop
-μ-loop g transitions accepting won safe limits s witness inputs outputs x at judged y₀ tried₀ y tried = g .outputs - tried
+μ-loop g transitions accepting won safe limits s witness inputs outputs x at holds y₀ tried₀ y tried = g .outputs - tried
 
 abbrev Inv-inputs : tie.InvT-inputs
 Inv-inputs g transitions accepting won safe limits s witness₀ inputs outputs x₀ witness x =

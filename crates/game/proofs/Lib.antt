@@ -9,6 +9,9 @@ pub mod AttractionLaws
 pub mod PassLaws
 pub mod PromotionLaws
 pub mod RoundLaws
+pub mod LiftLaws
+pub mod HeightLaws
+pub mod NarrowLaws
 pub mod TableLaws
 pub mod StrategyLaws
 pub mod CheckLaws

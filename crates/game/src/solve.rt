@@ -462,24 +462,27 @@ fn numbered(
     let system = ranks.system;
     let environment = ranks.environment;
     if g.fair {
+        let round = system[start];
         return Solution {
             near: system,
             system: system,
             environment: environment,
-            round: system[start],
+            round: round,
         };
     }
     if environment[start] != 0 {
+        let none: [Rank; STATE_LIMIT] = [0; STATE_LIMIT];
         return Solution {
-            near: [0; STATE_LIMIT],
+            near: none,
             system: system,
             environment: environment,
             round: 0,
         };
     }
     let needs = narrow(g, transitions, accepting, start, &system, witness);
+    let near = needs.ranks;
     Solution {
-        near: needs.ranks,
+        near: near,
         system: system,
         environment: environment,
         round: needs.limit,

@@ -10,6 +10,9 @@ pub mod PassLaws
 pub mod PromotionLaws
 pub mod BeatenRounds
 pub mod RoundLaws
+pub mod LiftLaws
+pub mod HeightLaws
+pub mod NarrowLaws
 pub mod TableLaws
 pub mod StrategyLaws
 pub mod CheckLaws

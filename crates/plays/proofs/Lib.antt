@@ -5,3 +5,5 @@ pub mod RankLaws
 pub mod Determined
 pub mod EndlessLaws
 pub mod WayLaws
+pub mod BeatenLaws
+pub mod RoundLaws

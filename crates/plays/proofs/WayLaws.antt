@@ -13,7 +13,7 @@ use Rattle.plays.specs.declared.mode.Mode.{Mode}
 use Rattle.plays.specs.declared.mode.Mode.the-variants.{Fair, Stable}
 use Rattle.plays.specs.Arena.{Arena, goal, holds}
 use Rattle.plays.specs.Play.{Step, entered, reaches, Along}
-use Rattle.plays.specs.Strategy.{systemByte, environmentByte, BySystem, ByEnvironment, SystemWins, EnvironmentWins}
+use Rattle.plays.specs.Strategy.{environmentByte, BySystem, ByEnvironment, SystemWins, EnvironmentWins}
 use Rattle.plays.specs.Way.{SystemWay, EnvironmentWay, Outputs, Inputs, bySystem, byEnvironment, ordered, meeting, systemAfter}
 use Rattle.plays.specs.Way.{environmentAfter, meet, ByWay}
 use Rattle.plays.specs.Endless.{first, inputs, Follows, Promised, Reaching, Kept, CanEndless, Defeated, CannotEndless}

@@ -7,3 +7,4 @@ pub mod EndlessLaws
 pub mod WayLaws
 pub mod BeatenLaws
 pub mod RoundLaws
+pub mod KeyLaws

@@ -29,7 +29,7 @@ use Rattle.plays.proofs.WayLaws.{environment-made}
 -- ---- where the system is beaten there is a counterplay to every way
 
 -- the play begins with k steps that pass c
-pub record Opens (c : ℕ → Bool) (k : ℕ) (p : List Step) : Type 0 where
+record Opens (c : ℕ → Bool) (k : ℕ) (p : List Step) : Type 0 where
   pub row : List Step
   pub rest : List Step
   pub whole : p ≡ row ++ rest

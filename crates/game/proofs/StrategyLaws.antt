@@ -12,7 +12,6 @@ use lib.Dec.{eqb}
 use lib.ListN.{getD}
 use borrow.Author.Tests.{eqb-true}
 use Rattle.automaton.specs.Limits.{stateLimit}
-use Rattle.plays.specs.declared.mode.Mode.the-variants.{Stable}
 use Rattle.plays.specs.Arena.{Arena}
 use Rattle.plays.specs.Strategy.{systemByte, environmentByte, SystemWins}
 use Rattle.plays.specs.Round.{RoundNumber}
@@ -24,6 +23,7 @@ use Rattle.game.specs.inner.Solver.{Solves}
 use Rattle.reader.proofs.BoolLaws.{on, nonzero}
 use Rattle.game.proofs.IndexLaws.{row-below}
 use Rattle.plays.proofs.RankLaws.{system-wins, environment-wins}
+use Rattle.plays.proofs.KeyLaws.{mixed-wins}
 use Rattle.plays.proofs.RoundLaws.{round-number, no-round}
 
 -- the state and the input of an index into the system's table
@@ -40,25 +40,18 @@ no-rank-beyond : {G : Arena} {player steady : Bool} {most : ℕ} (r : List ℕ) 
 no-rank-beyond r rk s h =
     on (eqb (getD r s 0) 0) (eqb-true (getD r s 0) 0) (λ e. let l = rk .within s (nonzero (getD r s 0) e) in omega arith)
 
--- @TEMP
-abbrev pub MixedWins : Type 0
-MixedWins = (G : Arena) (σ near far : List ℕ) → ((t : ℕ) → 0 < getD near t 0 → t < G .states) → ((t : ℕ) → 0 < getD far t 0 → t < G .states)
-    → ((s : ℕ) → 0 < getD near s 0 → (x : ℕ) → x < G .inputs → AllowedOutput false G near s x (systemByte G σ s x))
-    → ((s : ℕ) → getD near s 0 ≡ 0 → 0 < getD far s 0 → (x : ℕ) → x < G .inputs → AllowedOutput false G far s x (systemByte G σ s x))
-    → (s : ℕ) → 0 < getD far s 0 → SystemWins Stable G (G .states) σ s
-
 -- a table that goes by the near ranks on a state that has one, else by the far ones, wins wherever there is a far one; when fair they are the same
-two-ranks-win : (mixed-wins : MixedWins) (fair : Bool) (G : Arena) (σ near far : List ℕ) → Ranked G true fair (G .states) near → Ranked G true fair (G .states) far
+two-ranks-win : (fair : Bool) (G : Arena) (σ near far : List ℕ) → Ranked G true fair (G .states) near → Ranked G true fair (G .states) far
     → (fair ≡ true → near ≡ far)
     → ((s : ℕ) → 0 < getD near s 0 → (x : ℕ) → x < G .inputs → AllowedOutput fair G near s x (systemByte G σ s x))
     → ((s : ℕ) → getD near s 0 ≡ 0 → 0 < getD far s 0 → (x : ℕ) → x < G .inputs → AllowedOutput fair G far s x (systemByte G σ s x))
     → (s : ℕ) → 0 < getD far s 0 → SystemWins (modeOf fair) G (G .states) σ s
-two-ranks-win mixed-wins true G σ near far nr fr same by-near by-far s w =
+two-ranks-win true G σ near far nr fr same by-near by-far s w =
     system-wins true G σ near by-near (G .states) s ((λ _. nr .bound s), (λ _. nr .bound)) (subst (λ (r : List ℕ). 0 < getD r s 0) (sym (same refl)) w)
-two-ranks-win mixed-wins false G σ near far nr fr same by-near by-far s w =
+two-ranks-win false G σ near far nr fr same by-near by-far s w =
     mixed-wins G σ near far (nr .within) (fr .within) by-near by-far s w
 
-module _ (mixed-wins : MixedWins) {fair : Bool} {G : Arena} (small : G .states ≤ stateLimit) {start r : ℕ} {near system environment : List ℕ}
+module _ {fair : Bool} {G : Arena} (small : G .states ≤ stateLimit) {start r : ℕ} {near system environment : List ℕ}
     (found : Solves fair G start near system environment r) {σ₀ τ₀ σ τ : List ℕ}
     (sf : SystemFilled fair G near system σ₀ σ) (ef : EnvironmentFilled fair G environment τ₀ τ) where
   system-at : (s x : ℕ) → s < stateLimit → x < G .inputs → MixedByte fair G near system s x (systemByte G σ s x)
@@ -86,7 +79,7 @@ module _ (mixed-wins : MixedWins) {fair : Bool} {G : Arena} (small : G .states �
   system-state s p =
       let l = found .ranking .of-system .within s p in
       record {
-        wins = two-ranks-win mixed-wins fair G σ near system (found .near-ranked) (found .ranking .of-system) (found .near-fair) near-allowed far-allowed s p;
+        wins = two-ranks-win fair G σ near system (found .near-ranked) (found .ranking .of-system) (found .near-fair) near-allowed far-allowed s p;
         bytes = λ x h. on (eqb (getD near s 0) 0)
             (λ e. far-allowed s (eqb-true (getD near s 0) 0 e) p x h .0)
             (λ e. near-allowed s (nonzero (getD near s 0) e) x h .0);

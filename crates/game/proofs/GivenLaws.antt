@@ -147,12 +147,12 @@ pub solved-refused : (refusal : Refusal) (mode : Mode) (start : ℕ) (G : Arena)
     → Solved refusal mode start G σ τ σ τ (Refused refusal)
 solved-refused refusal mode start G σ τ ne = record { number = refl; place = refl; refused = λ _. (refl, refl, refl); served = λ e. absurd (ne e) }
 
-pub solved-served : (refusal : Refusal) (mode : Mode) (start : ℕ) (G : Arena) (σ₀ τ₀ σ τ : List ℕ) (can : Bool) → refusal ≡ Nothing → Tables mode G σ₀ τ₀ σ τ
-    → Verdict mode G σ τ start can → Solved refusal mode start G σ₀ τ₀ σ τ (verdictOf can (G .states))
-solved-served refusal mode start G σ₀ τ₀ σ τ can e t v =
+pub solved-served : (refusal : Refusal) (mode : Mode) (start : ℕ) (G : Arena) (σ₀ τ₀ σ τ : List ℕ) (r : ℕ) → refusal ≡ Nothing → Tables mode G σ₀ τ₀ σ τ
+    → Verdict mode G σ τ start r → Solved refusal mode start G σ₀ τ₀ σ τ (verdictOf (G .states) r)
+solved-served refusal mode start G σ₀ τ₀ σ τ r e t v =
     record {
-      number = verdict-number can (G .states) ∙ sym (ap numberOf e);
-      place = verdict-place can (G .states) ∙ sym (ap placeOf e);
+      number = verdict-number (G .states) r ∙ sym (ap numberOf e);
+      place = verdict-place (G .states) r ∙ sym (ap placeOf e);
       refused = λ ne. absurd (ne e);
-      served = λ _. (can, refl, t, v);
+      served = λ _. (r, refl, t, v);
     }

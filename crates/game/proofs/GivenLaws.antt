@@ -7,6 +7,7 @@ use mathlib.Core.List.{List}
 use native.Mathlib.Omega.{arith}
 use lib.Dec.{ltb, leb}
 use lib.ListN.{length, getD, take}
+use lib.Pow.{pow-pos}
 use lib.Seq.{getD-take, length-take-le}
 use borrow.Author.Tests.{le-leb, lt-leb, leb-false, lt-ltb, le-ltb, ltb-false}
 use Rattle.reader.specs.declared.refusal.Refusal.{Refusal}
@@ -86,6 +87,7 @@ pub record Accepted (i o start : ℕ) (G : Arena) (σ τ : List ℕ) : Type 0 wh
   pub valid : Valid G
   pub start-fits : start < G .states
   pub inputs-some : 0 < G .inputs
+  pub outputs-some : 0 < G .outputs
   pub system-long : stateLimit * G .inputs ≤ length σ
   pub environment-long : stateLimit ≤ length τ
 
@@ -138,6 +140,7 @@ accepted i o start n transitions flags mask σ τ e =
       };
       start-fits = later .start-fits;
       inputs-some = range .inputs-some;
+      outputs-some = pow-pos o;
       system-long = ltb-false (length σ) (stateLimit * G .inputs) (or-left (ltb (length σ) (stateLimit * G .inputs)) (ltb (length τ) stateLimit) tables);
       environment-long = ltb-false (length τ) stateLimit (or-right (ltb (length σ) (stateLimit * G .inputs)) (ltb (length τ) stateLimit) tables);
     }

@@ -76,13 +76,21 @@ module _ (mode : Mode) (G : Arena) (few-inputs : G .inputs ≤ noMove) (σ₀ τ
   pub system-free : Free (G .states) τ Player.system s ↔ ((s < G .states) × SystemWins mode G (G .states) σ s)
   system-free = (
     λ f. (f .0, ⊎-elim (λ w. w .wins) (λ w. let b = w .byte in clash (isNoMove τ s) (f .1) (has-move τ s (omega arith))) (x .won s (f .0))),
-    λ f. (f .0, ⊎-elim (λ w. eq-eqb (environmentByte τ s) noMove (w .other)) (λ w. absurd (one-winner mode G (G .states) σ τ s (f .1) (w .wins))) (x .won s (f .0))),
+    λ f. (
+      f .0,
+      ⊎-elim (λ w. eq-eqb (environmentByte τ s) noMove (w .other)) (λ w. absurd (one-winner mode G (G .states) σ τ s (f .1) (w .wins)))
+          (x .won s (f .0)),
+    ),
   )
 
   pub environment-free : Free (G .states) τ Player.environment s ↔ ((s < G .states) × EnvironmentWins mode G τ s)
   environment-free = (
     λ f. (f .0, ⊎-elim (λ w. clash (isNoMove τ s) (eq-eqb (environmentByte τ s) noMove (w .other)) (f .1)) (λ w. w .wins) (x .won s (f .0))),
-    λ f. (f .0, ⊎-elim (λ w. absurd (one-winner mode G (G .states) σ τ s (w .wins) (f .1))) (λ w. let b = w .byte in has-move τ s (omega arith)) (x .won s (f .0))),
+    λ f. (
+      f .0,
+      ⊎-elim (λ w. absurd (one-winner mode G (G .states) σ τ s (w .wins) (f .1))) (λ w. let b = w .byte in has-move τ s (omega arith))
+          (x .won s (f .0)),
+    ),
   )
 
 module _ (mode : Mode) (G : Arena) (few-inputs : G .inputs ≤ noMove) (few-outputs : G .outputs ≤ noMove) (some : 0 < G .inputs) (σ₀ τ₀ σ τ σ′ τ′ : List ℕ)

@@ -96,8 +96,12 @@ module _ (mode : Mode) (i o : ℕ) (rule condition : List ℕ) (old : Buffers) (
       let x = shortAutomaton (letterCount i o) (old .transitions) (old .accepting) in
       let y = ltb (length (old .system)) (stateLimit * 2 ^ i) in
       let z = ltb (length (old .environment)) stateLimit in
-      let e = or-right x (y || z) (pass .buffers-fit) in
-      (pow-pos i, pow-pos o, ltb-false (length (old .system)) (stateLimit * 2 ^ i) (or-left y z e), ltb-false (length (old .environment)) stateLimit (or-right y z e))
+      let e = or-right x (y || z) (pass .buffers-fit) in (
+        pow-pos i,
+        pow-pos o,
+        ltb-false (length (old .system)) (stateLimit * 2 ^ i) (or-left y z e),
+        ltb-false (length (old .environment)) stateLimit (or-right y z e),
+      )
 
   rule-counts : (n : ℕ) → ruleRefusal i o rule condition old (check .reading) (check .condition-reading) n ≡ cond (ltb stateLimit n) StateCount Nothing
   unfolding ruleRefusal

@@ -1,13 +1,16 @@
 -- What the two calls that solve a game promise holds for plays without end: the theorems on the authority's two questions.
 -- Assumes nothing.
-use Prim.Native.Nat.{ℕ, zero, suc, _*_}
-use mathlib.Core.Path.{_≡_, refl, sym, ap, _∙_, subst}
-use mathlib.Core.Bool.{Bool, true, false}
+use Prim.Native.Nat.{ℕ, zero, suc, _*_, _<_, _≤_}
+use mathlib.Core.Path.{_≡_, sym, ap, _∙_, subst}
+use mathlib.Core.Bool.{true, false}
 use mathlib.Core.List.{List}
 use mathlib.Core.Logic.{⊎-elim}
 use native.Mathlib.Omega.{arith}
+use lib.Dec.{ltb}
 use lib.ListN.{take}
+use borrow.Author.Tests.{ltb-true, ltb-false}
 use Rattle.reader.specs.Formula.{Formula}
+use Rattle.reader.proofs.BoolLaws.{on, clash}
 use Rattle.reader.proofs.RefusalLaws.{something, refused-or-served}
 use Rattle.automaton.specs.Trace.{Satisfies}
 use Rattle.automaton.specs.Automaton.{Automaton}
@@ -16,25 +19,27 @@ use Rattle.game.specs.declared.answer.Answer.{Answer}
 use Rattle.game.specs.Answer.{verdictOf}
 use Rattle.plays.specs.declared.mode.Mode.{Mode}
 use Rattle.plays.specs.Arena.{Arena}
-use Rattle.plays.specs.Play.{Step, Legal, letters, Along}
+use Rattle.plays.specs.Play.{Step, reaches, letters, Along}
 use Rattle.plays.specs.Strategy.{BySystem, ByEnvironment}
 use Rattle.game.specs.Tables.{Verdict}
 use Rattle.game.specs.Given.{GivenSolved}
 use Rattle.game.specs.Rule.{Buffers, Satisfied, RuleServed, RuleSolved}
-use Rattle.plays.specs.Way.{bySystem, byEnvironment, ordered, meet}
-use Rattle.plays.specs.Endless.{first, Follows, Kept, CanEndless, Defeated, CannotEndless, Reaching}
+use Rattle.plays.specs.Way.{byEnvironment, meet}
+use Rattle.plays.specs.Endless.{first, Follows, Defeated, CannotEndless, Reaching}
 use Rattle.game.specs.EndlessAnswer.{Satisfying, Texts, arenaLeft, RuleEndless, GivenEndless}
 use Rattle.plays.proofs.EndlessLaws.{first-long, first-take}
 use Rattle.plays.proofs.WayLaws.{system-endless, environment-endless}
 use Rattle.plays.proofs.PlayLaws.{take-along, take-letters}
+use Rattle.game.proofs.AnswerLaws.{of-verdict}
 use Rattle.game.proofs.RuleLaws.{reached-satisfied, satisfied-reached, on-product}
 
 -- ---- a given automaton
 
-verdict-endless : (mode : Mode) (G : Arena) (σ τ : List ℕ) (start n : ℕ) (can : Bool) → Verdict mode G σ τ start can
-    → GivenEndless mode G σ τ start (verdictOf can n)
-verdict-endless mode G σ τ start n true v = system-endless G mode σ start (v .system refl .wins)
-verdict-endless mode G σ τ start n false v = environment-endless G mode τ start (v .environment refl .wins)
+verdict-endless : (mode : Mode) (G : Arena) (σ τ : List ℕ) (start n r : ℕ) → Verdict mode G σ τ start r → GivenEndless mode G σ τ start (verdictOf n r)
+verdict-endless mode G σ τ start n r v =
+    of-verdict (GivenEndless mode G σ τ start) n r
+    (λ e. environment-endless G mode τ start (v .environment e .wins))
+    (λ l. system-endless G mode r σ start (v .system l .1) (Reaching G start) (λ f j follows reached earlier. reached))
 
 pub given-endless : (i o : ℕ) (mode : Mode) (G : Arena) (start : ℕ) (σ₀ τ₀ σ τ : List ℕ) (r : Answer) → GivenSolved mode i o start G σ₀ τ₀ σ τ r
     → GivenEndless mode G σ τ start r
@@ -46,35 +51,36 @@ given-endless i o mode G start σ₀ τ₀ σ τ r x =
 
 -- ---- a rule: on its automaton a play reaches a goal exactly when a beginning of it satisfies the rule
 
--- a beginning that satisfies the rule is a beginning of itself
+-- a beginning that satisfies the rule is one of every longer beginning
+beginning : (φ : Formula) (G : Arena) (f : ℕ → Step) (k j : ℕ) → 0 < k → k ≤ j → Satisfying φ G (first f k) → Satisfied φ G (first f j)
+beginning φ G f k j some l s =
+    let e : take k (letters G (first f j)) ≡ letters G (first f k) = take-letters G (first f j) k ∙ ap (letters G) (first-take f k j l) in
+    (k, some, omega (arith, first-long f j), subst (Satisfies φ) (sym e) s)
+
+-- and of itself
 itself : (φ : Formula) (G : Arena) (f : ℕ → Step) (k : ℕ) → Satisfying φ G (first f k) → Satisfied φ G (first f k)
 unfolding first letters Satisfies
 itself φ G f zero s = absurd s
-itself φ G f (suc k) s =
-    let l = first-long f (suc k) in
-    let e : take (suc k) (letters G (first f (suc k))) ≡ letters G (first f (suc k)) = take-letters G (first f (suc k)) (suc k)
-    ∙ ap (letters G) (first-take f (suc k) (suc k) (omega arith)) in
-    (suc k, omega arith, omega arith, subst (Satisfies φ) (sym e) s)
+itself φ G f (suc k) s = beginning φ G f (suc k) (suc k) (omega arith) (omega arith) s
 
 module _ (φ : Formula) (G : Arena) (automaton : Automaton φ (G .inputs * G .outputs) (G .states) (G .transitions) (G .accepting)) where
-  -- a beginning that reaches a goal has a beginning that satisfies the rule
-  satisfying : (R : ℕ → Step → Type 0) → ((s : ℕ) (a : Step) → R s a → Legal G a) → (f : ℕ → Step) (k : ℕ) → Along G R 0 (first f k) → Reaching G 0 (first f k)
-      → (j : ℕ) × Along G R 0 (first f j) × Satisfying φ G (first f j)
-  satisfying R legal f k h r =
-      let s = reached-satisfied φ G automaton R legal (first f k) h r in
-      let e : take (s .0) (first f k) ≡ first f (s .0) = first-take f (s .0) k (omega (arith, s .2, first-long f k)) in
-      (s .0, subst (Along G R 0) e (take-along G R 0 (first f k) (s .0) h), subst (Satisfies φ) (take-letters G (first f k) (s .0) ∙ ap (letters G) e) (s .3))
-
-  kept-rule : (σ : List ℕ) (f : ℕ → Step) → Kept G σ 0 (Reaching G 0) f → Kept G σ 0 (Satisfying φ G) f
-  kept-rule σ f w = satisfying (BySystem G σ) (λ s a b. b .0) f (w .0) (w .1) (w .2)
-
-  can-rule : (mode : Mode) (σ : List ℕ) → CanEndless mode G σ 0 (Reaching G 0) → CanEndless mode G σ 0 (Satisfying φ G)
-  can-rule mode σ x =
-      record {
-        orders = λ y legal promised. kept-rule σ (meet (ordered y) (bySystem G σ 0)) (x .orders y legal promised);
-        ways = λ α legal promised. kept-rule σ (meet α (bySystem G σ 0)) (x .ways α legal promised);
-        plays = λ f follows promised. kept-rule σ f (x .plays f follows promised);
-      }
+  -- the beginning with which a play first reaches a goal satisfies the rule: a shorter one that did would have reached a goal
+  satisfying : (σ : List ℕ) (f : ℕ → Step) (j : ℕ) → Along G (BySystem G σ) 0 (first f (suc j)) → reaches G 0 (first f (suc j)) ≡ true
+      → reaches G 0 (first f j) ≡ false → Satisfying φ G (first f (suc j))
+  satisfying σ f j h r earlier =
+      let s = reached-satisfied φ G automaton (BySystem G σ) (λ s a b. b .0) (first f (suc j)) h r in
+      let k = s .0 in
+      let some : 0 < k = s .1 in
+      let most : k ≤ suc j = omega (arith, s .2, first-long f (suc j)) in
+      let is : Satisfying φ G (first f k) = subst (Satisfies φ) (take-letters G (first f (suc j)) k ∙ ap (letters G) (first-take f k (suc j) most)) (s .3) in
+      on (ltb k (suc j))
+      (λ e.
+      let short : k ≤ j = omega (arith, ltb-true k (suc j) e) in
+      clash (reaches G 0 (first f j))
+      (satisfied-reached φ G automaton (BySystem G σ) (λ s a b. b .0) (first f j)
+      (subst (Along G (BySystem G σ) 0) (first-take f j (suc j) (omega arith)) (take-along G (BySystem G σ) 0 (first f (suc j)) j h))
+      (beginning φ G f k j some short is)) earlier)
+      (λ e. subst (λ (m : ℕ). Satisfying φ G (first f m)) (let same : k ≡ suc j = omega (arith, ltb-false k (suc j) e) in same) is)
 
   defeated-rule : (mode : Mode) (τ : List ℕ) (f : ℕ → Step) → Follows G (ByEnvironment G τ) 0 f → Defeated mode G (Reaching G 0) f
       → Defeated mode G (Satisfying φ G) f
@@ -91,23 +97,22 @@ module _ (φ : Formula) (G : Arena) (automaton : Automaton φ (G .inputs * G .ou
         plays = λ f follows. defeated-rule mode τ f follows (x .plays f follows);
         ways = λ ω outputs. defeated-rule mode τ (meet (byEnvironment G τ 0) ω) (x .made ω outputs) (x .ways ω outputs);
         made = x .made;
-        chosen = x .chosen;
+        by = x .by;
         only = x .only;
       }
 
 module _ (mode : Mode) (i o : ℕ) (rule condition : List ℕ) (old new : Buffers) where
-  abbrev texts : {n : ℕ} {can : Bool} → RuleServed mode i o rule condition old new n can → Texts i o rule condition
+  abbrev texts : {n r : ℕ} → RuleServed mode i o rule condition old new n r → Texts i o rule condition
   texts s = record { formula = s .formula; good = s .good; assumption = s .assumption; assumed = s .assumed; judges = s .judges }
 
-  served-endless : (n : ℕ) (can : Bool) → RuleServed mode i o rule condition old new n can → RuleEndless mode i o rule condition new (verdictOf can n)
-  served-endless n true s =
+  served-endless : (n r : ℕ) → RuleServed mode i o rule condition old new n r → RuleEndless mode i o rule condition new (verdictOf n r)
+  served-endless n r s =
       let G : Arena = arenaLeft i o n new (s .assumption) in
       let A = on-product (s .formula) i o n (new .transitions) (new .accepting) (maskOf (s .assumption) i) (s .automaton) in
-      (texts s, can-rule (s .formula) G A mode (new .system) (system-endless G mode (new .system) 0 (s .verdict .system refl .wins)))
-  served-endless n false s =
-      let G : Arena = arenaLeft i o n new (s .assumption) in
-      let A = on-product (s .formula) i o n (new .transitions) (new .accepting) (maskOf (s .assumption) i) (s .automaton) in
-      (texts s, cannot-rule (s .formula) G A mode (new .environment) (environment-endless G mode (new .environment) 0 (s .verdict .environment refl .wins)))
+      let φ = s .formula in
+      of-verdict (RuleEndless mode i o rule condition new) n r
+      (λ e. (texts s, cannot-rule φ G A mode (new .environment) (environment-endless G mode (new .environment) 0 (s .verdict .environment e .wins))))
+      (λ l. (texts s, system-endless G mode r (new .system) 0 (s .verdict .system l .1) (Satisfying φ G) (satisfying φ G A (new .system))))
 
   pub rule-endless : (r : Answer) → RuleSolved mode i o rule condition old new r → RuleEndless mode i o rule condition new r
   rule-endless r x =

@@ -7,6 +7,7 @@ use mathlib.Core.List.{List}
 use native.Mathlib.Omega.{arith}
 use lib.Dec.{ltb, leb}
 use lib.ListN.{length, getD, take}
+use lib.Pow.{pow-pos}
 use lib.Seq.{getD-take, length-take-le}
 use borrow.Author.Tests.{le-leb, lt-leb, leb-false, lt-ltb, le-ltb, ltb-false}
 use Rattle.reader.specs.declared.refusal.Refusal.{Refusal}
@@ -86,6 +87,7 @@ pub record Accepted (i o start : ℕ) (G : Arena) (σ τ : List ℕ) : Type 0 wh
   pub valid : Valid G
   pub start-fits : start < G .states
   pub inputs-some : 0 < G .inputs
+  pub outputs-some : 0 < G .outputs
   pub system-long : stateLimit * G .inputs ≤ length σ
   pub environment-long : stateLimit ≤ length τ
 
@@ -138,6 +140,7 @@ accepted i o start n transitions flags mask σ τ e =
       };
       start-fits = later .start-fits;
       inputs-some = range .inputs-some;
+      outputs-some = pow-pos o;
       system-long = ltb-false (length σ) (stateLimit * G .inputs) (or-left (ltb (length σ) (stateLimit * G .inputs)) (ltb (length τ) stateLimit) tables);
       environment-long = ltb-false (length τ) stateLimit (or-right (ltb (length σ) (stateLimit * G .inputs)) (ltb (length τ) stateLimit) tables);
     }
@@ -147,12 +150,12 @@ pub solved-refused : (refusal : Refusal) (mode : Mode) (start : ℕ) (G : Arena)
     → Solved refusal mode start G σ τ σ τ (Refused refusal)
 solved-refused refusal mode start G σ τ ne = record { number = refl; place = refl; refused = λ _. (refl, refl, refl); served = λ e. absurd (ne e) }
 
-pub solved-served : (refusal : Refusal) (mode : Mode) (start : ℕ) (G : Arena) (σ₀ τ₀ σ τ : List ℕ) (can : Bool) → refusal ≡ Nothing → Tables mode G σ₀ τ₀ σ τ
-    → Verdict mode G σ τ start can → Solved refusal mode start G σ₀ τ₀ σ τ (verdictOf can (G .states))
-solved-served refusal mode start G σ₀ τ₀ σ τ can e t v =
+pub solved-served : (refusal : Refusal) (mode : Mode) (start : ℕ) (G : Arena) (σ₀ τ₀ σ τ : List ℕ) (r : ℕ) → refusal ≡ Nothing → Tables mode G σ₀ τ₀ σ τ
+    → Verdict mode G σ τ start r → Solved refusal mode start G σ₀ τ₀ σ τ (verdictOf (G .states) r)
+solved-served refusal mode start G σ₀ τ₀ σ τ r e t v =
     record {
-      number = verdict-number can (G .states) ∙ sym (ap numberOf e);
-      place = verdict-place can (G .states) ∙ sym (ap placeOf e);
+      number = verdict-number (G .states) r ∙ sym (ap numberOf e);
+      place = verdict-place (G .states) r ∙ sym (ap placeOf e);
       refused = λ ne. absurd (ne e);
-      served = λ _. (can, refl, t, v);
+      served = λ _. (r, refl, t, v);
     }

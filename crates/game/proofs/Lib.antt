@@ -8,7 +8,11 @@ pub mod SearchLaws
 pub mod AttractionLaws
 pub mod PassLaws
 pub mod PromotionLaws
+pub mod BeatenRounds
 pub mod RoundLaws
+pub mod LiftLaws
+pub mod HeightLaws
+pub mod NarrowLaws
 pub mod TableLaws
 pub mod StrategyLaws
 pub mod CheckLaws

@@ -3,7 +3,7 @@
 -- Assumes nothing.
 use Prim.Native.Nat.{ℕ, _+_, _*_, _/_, _%_, _^_, _<_, _≤_}
 use mathlib.Core.Path.{_≡_, refl, sym, ap, ap₂, _∙_, subst}
-use mathlib.Core.Bool.{Bool, true, false, cond, _||_}
+use mathlib.Core.Bool.{true, false, cond, _||_}
 use mathlib.Core.List.{List}
 use mathlib.Core.Logic.{_↔_, _⊎_, ⊎-elim}
 use native.Mathlib.Nat.{mod-lt, div-add-mod', mul-le-mul-right}
@@ -39,6 +39,7 @@ use Rattle.game.specs.Answer.{answerNumber, answerStates, verdictOf}
 use Rattle.plays.specs.declared.mode.Mode.{Mode}
 use Rattle.plays.specs.Arena.{Player, Arena, arena}
 use Rattle.plays.specs.Strategy.{environmentByte, SystemWins, EnvironmentWins}
+use Rattle.plays.specs.Endless.{Reaching}
 use Rattle.game.specs.Tables.{noMove, SystemState, EnvironmentState, Tables, Verdict}
 use Rattle.game.specs.Given.{givenRefusal, GivenSolved}
 use Rattle.game.specs.Rule.{Buffers, shortBuffers, ruleRefusal, RuleSolved}
@@ -47,15 +48,13 @@ use Rattle.game.specs.Agreement.{isNoMove, Free, TableAgrees, TablesAgre
 use Rattle.game.proofs.AnswerLaws.{verdict-states}
 use Rattle.game.proofs.GivenLaws.{passed}
 use Rattle.plays.proofs.Determined.{one-winner}
+use Rattle.plays.proofs.RoundLaws.{one-round}
 
 -- ---- one verdict, and tables that agree
 
--- a state has one winner, by whatever tables
-one-verdict : (mode : Mode) (G : Arena) (σ τ σ′ τ′ : List ℕ) (s : ℕ) (c c′ : Bool) → Verdict mode G σ τ s c → Verdict mode G σ′ τ′ s c′ → c ≡ c′
-one-verdict mode G σ τ σ′ τ′ s true true v w = refl
-one-verdict mode G σ τ σ′ τ′ s true false v w = absurd (one-winner mode G σ τ′ s (v .system refl .wins) (w .environment refl .wins))
-one-verdict mode G σ τ σ′ τ′ s false true v w = absurd (one-winner mode G σ′ τ s (w .system refl .wins) (v .environment refl .wins))
-one-verdict mode G σ τ σ′ τ′ s false false v w = refl
+-- the start has one round number, by whatever tables
+one-verdict : (mode : Mode) (G : Arena) (σ τ σ′ τ′ : List ℕ) (s r r′ : ℕ) → Verdict mode G σ τ s r → Verdict mode G σ′ τ′ s r′ → r ≡ r′
+one-verdict mode G σ τ σ′ τ′ s r r′ v w = one-round mode G (Reaching G s) r r′ (v .round) (w .round)
 
 -- a byte is free and good in both runs, or it is the same
 abbrev FreeOrSame : (ℕ → Type 0) → List ℕ → List ℕ → ℕ → Type 0
@@ -74,16 +73,24 @@ table-agrees free t t′ l h =
 
 -- the free bytes are the winner's: of the tables that are handed out, the environment's has 255 exactly where the system wins
 module _ (mode : Mode) (G : Arena) (few-inputs : G .inputs ≤ noMove) (σ₀ τ₀ σ τ : List ℕ) (x : Tables mode G σ₀ τ₀ σ τ) (s : ℕ) where
-  pub system-free : Free (G .states) τ Player.system s ↔ ((s < G .states) × SystemWins mode G σ s)
+  pub system-free : Free (G .states) τ Player.system s ↔ ((s < G .states) × SystemWins mode G (G .states) σ s)
   system-free = (
     λ f. (f .0, ⊎-elim (λ w. w .wins) (λ w. let b = w .byte in clash (isNoMove τ s) (f .1) (has-move τ s (omega arith))) (x .won s (f .0))),
-    λ f. (f .0, ⊎-elim (λ w. eq-eqb (environmentByte τ s) noMove (w .other)) (λ w. absurd (one-winner mode G σ τ s (f .1) (w .wins))) (x .won s (f .0))),
+    λ f. (
+      f .0,
+      ⊎-elim (λ w. eq-eqb (environmentByte τ s) noMove (w .other)) (λ w. absurd (one-winner mode G (G .states) σ τ s (f .1) (w .wins)))
+          (x .won s (f .0)),
+    ),
   )
 
   pub environment-free : Free (G .states) τ Player.environment s ↔ ((s < G .states) × EnvironmentWins mode G τ s)
   environment-free = (
     λ f. (f .0, ⊎-elim (λ w. clash (isNoMove τ s) (eq-eqb (environmentByte τ s) noMove (w .other)) (f .1)) (λ w. w .wins) (x .won s (f .0))),
-    λ f. (f .0, ⊎-elim (λ w. absurd (one-winner mode G σ τ s (w .wins) (f .1))) (λ w. let b = w .byte in has-move τ s (omega arith)) (x .won s (f .0))),
+    λ f. (
+      f .0,
+      ⊎-elim (λ w. absurd (one-winner mode G (G .states) σ τ s (w .wins) (f .1))) (λ w. let b = w .byte in has-move τ s (omega arith))
+          (x .won s (f .0)),
+    ),
   )
 
 module _ (mode : Mode) (G : Arena) (few-inputs : G .inputs ≤ noMove) (few-outputs : G .outputs ≤ noMove) (some : 0 < G .inputs) (σ₀ τ₀ σ τ σ′ τ′ : List ℕ)
@@ -93,8 +100,8 @@ module _ (mode : Mode) (G : Arena) (few-inputs : G .inputs ≤ noMove) (few-outp
       → (SystemState mode G σ τ s × SystemState mode G σ′ τ′ s) ⊎ (EnvironmentState mode G σ τ s × EnvironmentState mode G σ′ τ′ s)
   same-winner s h =
       ⊎-elim
-      (λ u. ⊎-elim (λ v. _⊎_.inl (u, v)) (λ v. absurd (one-winner mode G σ τ′ s (u .wins) (v .wins))) (y .won s h))
-      (λ u. ⊎-elim (λ v. absurd (one-winner mode G σ′ τ s (v .wins) (u .wins))) (λ v. _⊎_.inr (u, v)) (y .won s h))
+      (λ u. ⊎-elim (λ v. _⊎_.inl (u, v)) (λ v. absurd (one-winner mode G (G .states) σ τ′ s (u .wins) (v .wins))) (y .won s h))
+      (λ u. ⊎-elim (λ v. absurd (one-winner mode G (G .states) σ′ τ s (v .wins) (u .wins))) (λ v. _⊎_.inr (u, v)) (y .won s h))
       (x .won s h)
 
   system-byte : (s a : ℕ) → a < G .inputs → FreeOrSame (λ k. Free (G .states) τ Player.system s) σ σ′ (s * G .inputs + a)
@@ -177,7 +184,7 @@ module _ {mode : Mode} (i o : ℕ) {start n : ℕ} {transitions accepting : List
       let few : 2 ^ i ≤ numberLimit = small-power i (inputs-fit i o a) in
       let few′ : 2 ^ o ≤ numberLimit = small-power o (outputs-fit i o a) in
       record {
-        answer = u .1 ∙ ap (λ (c : Bool). verdictOf c n) (one-verdict mode G σ τ σ′ τ′ start (u .0) (v .0) (u .3) (v .3)) ∙ sym (v .1);
+        answer = u .1 ∙ ap (verdictOf n) (one-verdict mode G σ τ σ′ τ′ start (u .0) (v .0) (u .3) (v .3)) ∙ sym (v .1);
         tables = after-verdict _ n (2 ^ i) σ τ σ′ τ′ (x .number ∙ ap numberOf z)
             (tables-agree mode G (omega arith) (omega arith) (pow-pos i) σ₀ τ₀ σ τ σ′ τ′ (u .2) (v .2));
       }
@@ -242,15 +249,15 @@ module _ {mode : Mode} {i o : ℕ} {rule condition : List ℕ} {old new new′ :
   of n κ = arena i o n (new .transitions) (new .accepting) (maskOf κ i)
 
   -- tables and verdict of a run
-  abbrev Played : Buffers → Bool → Arena → Type 0
-  Played b can G = Tables mode G (old .system) (old .environment) (b .system) (b .environment) × Verdict mode G (b .system) (b .environment) 0 can
+  abbrev Played : Buffers → ℕ → Arena → Type 0
+  Played b k G = Tables mode G (old .system) (old .environment) (b .system) (b .environment) × Verdict mode G (b .system) (b .environment) 0 k
 
   -- the second run's, on the first run's arena
-  moved : (n m : ℕ) → m ≡ n → (κ χ : Formula) → χ ≡ κ → (can : Bool)
-      → Played new′ can (arena i o m (new′ .transitions) (new′ .accepting) (maskOf χ i)) → Played new′ can (of n κ)
-  moved n m e κ χ f can p =
+  moved : (n m : ℕ) → m ≡ n → (κ χ : Formula) → χ ≡ κ → (k : ℕ)
+      → Played new′ k (arena i o m (new′ .transitions) (new′ .accepting) (maskOf χ i)) → Played new′ k (of n κ)
+  moved n m e κ χ f k p =
       let g : arena i o m (new′ .transitions) (new′ .accepting) (maskOf χ i) ≡ of n κ = rw (e, f, same-automaton .0, same-automaton .1) refl in
-      subst (Played new′ can) g p
+      subst (Played new′ k) g p
 
   -- the same answer, and the tables after it
   abbrev Outcome : Type 0
@@ -270,10 +277,10 @@ module _ {mode : Mode} {i o : ℕ} {rule condition : List ℕ} {old new new′ :
       let few : 2 ^ i ≤ numberLimit = small-power i (inputs-fit i o a) in
       let few′ : 2 ^ o ≤ numberLimit = small-power o (outputs-fit i o a) in
       let G = of (x .states) (s .assumption) in (
-        u .1 ∙ ap₂ verdictOf (one-verdict mode G _ _ _ _ 0 (u .0) (v .0) (s .verdict) (w .1)) (sym m) ∙ sym (v .1),
+        u .1 ∙ ap₂ verdictOf (sym m) (one-verdict mode G _ _ _ _ 0 (u .0) (v .0) (s .verdict) (w .1)) ∙ sym (v .1),
         after-verdict _ _ (2 ^ i) _ _ _ _ (x .number ∙ ap numberOf z)
             (subst (λ (n : ℕ). TablesAgree n (2 ^ i) (new .system) (new .environment) (new′ .system) (new′ .environment))
-            (sym (ap answerStates (u .1) ∙ verdict-states (u .0) (x .states)))
+            (sym (ap answerStates (u .1) ∙ verdict-states (x .states) (u .0)))
             (tables-agree mode G (omega arith) (omega arith) (pow-pos i) _ _ _ _ _ _ (s .tables) (w .0))),
       )
 

@@ -38,7 +38,7 @@ use Rattle.game.specs.Tables.{Tables, Verdict}
 use Rattle.game.specs.Rule.{Buffers, buffers, shortBuffers, ruleRefusal, RuleSolved}
 use Rattle.game.specs.inner.RuleChecks.{TestsPassed, RuleChecked}
 use Rattle.game.proofs.AnswerLaws.{verdict-number, verdict-place}
-use Rattle.game.proofs.RuleLaws.{some-state, automaton-valid, can-keep, cannot-keep}
+use Rattle.game.proofs.RuleLaws.{some-state, automaton-valid, can-keep, cannot-keep, round-keep}
 
 -- refused before the automaton is built
 pub refused-early : (mode : Mode) (i o : ℕ) (rule condition : List ℕ) (old : Buffers) (x : Refusal) (mask : ℕ) → (x ≡ Nothing → ⊥)
@@ -91,13 +91,17 @@ module _ (mode : Mode) (i o : ℕ) (rule condition : List ℕ) (old : Buffers) (
       (ltb (length (old .system)) (stateLimit * 2 ^ i) || ltb (length (old .environment)) stateLimit) (pass .buffers-fit)
 
   -- the tables have room
-  pub tables-fit : (0 < 2 ^ i) × (stateLimit * 2 ^ i ≤ length (old .system)) × (stateLimit ≤ length (old .environment))
+  pub tables-fit : (0 < 2 ^ i) × (0 < 2 ^ o) × (stateLimit * 2 ^ i ≤ length (old .system)) × (stateLimit ≤ length (old .environment))
   tables-fit =
       let x = shortAutomaton (letterCount i o) (old .transitions) (old .accepting) in
       let y = ltb (length (old .system)) (stateLimit * 2 ^ i) in
       let z = ltb (length (old .environment)) stateLimit in
-      let e = or-right x (y || z) (pass .buffers-fit) in
-      (pow-pos i, ltb-false (length (old .system)) (stateLimit * 2 ^ i) (or-left y z e), ltb-false (length (old .environment)) stateLimit (or-right y z e))
+      let e = or-right x (y || z) (pass .buffers-fit) in (
+        pow-pos i,
+        pow-pos o,
+        ltb-false (length (old .system)) (stateLimit * 2 ^ i) (or-left y z e),
+        ltb-false (length (old .environment)) stateLimit (or-right y z e),
+      )
 
   rule-counts : (n : ℕ) → ruleRefusal i o rule condition old (check .reading) (check .condition-reading) n ≡ cond (ltb stateLimit n) StateCount Nothing
   unfolding ruleRefusal
@@ -170,16 +174,16 @@ module _ (mode : Mode) (i o : ℕ) (rule condition : List ℕ) (old : Buffers) (
     pub starts : 0 < n
     starts = some-state (automaton-of .automaton)
 
-    pub answered : (σ τ : List ℕ) (can : Bool) → Tables mode (arena i o n t a mask) (old .system) (old .environment) σ τ
-        → Verdict mode (arena i o n t a mask) σ τ 0 can
-        → RuleSolved mode i o rule condition old (buffers t a σ τ) (verdictOf can n)
-    answered σ τ can tables verdict =
+    pub answered : (σ τ : List ℕ) (r : ℕ) → Tables mode (arena i o n t a mask) (old .system) (old .environment) σ τ
+        → Verdict mode (arena i o n t a mask) σ τ 0 r
+        → RuleSolved mode i o rule condition old (buffers t a σ τ) (verdictOf n r)
+    answered σ τ r tables verdict =
         let s = automaton-of in
         let m = pass .mask-is in
         let won : Tables mode (arena i o n t a (maskOf (pass .assumption) i)) (old .system) (old .environment) σ τ =
         subst (λ (k : ℕ). Tables mode (arena i o n t a k) (old .system) (old .environment) σ τ) m tables in
-        let said : Verdict mode (arena i o n t a (maskOf (pass .assumption) i)) σ τ 0 can =
-        subst (λ (k : ℕ). Verdict mode (arena i o n t a k) σ τ 0 can) m verdict in
+        let said : Verdict mode (arena i o n t a (maskOf (pass .assumption) i)) σ τ 0 r =
+        subst (λ (k : ℕ). Verdict mode (arena i o n t a k) σ τ 0 r) m verdict in
         record {
           reading = check .reading;
           read = check .read;
@@ -190,10 +194,10 @@ module _ (mode : Mode) (i o : ℕ) (rule condition : List ℕ) (old : Buffers) (
           refusal = Nothing;
           first = sym (is-served .0) ∙ agrees (Built n) made
               ∙ ap (ruleRefusal i o rule condition old (check .reading) (check .condition-reading)) (sym (is-served .1));
-          number = verdict-number can n;
-          place = verdict-place can n;
+          number = verdict-number n r;
+          place = verdict-place n r;
           served = λ _. (
-            can,
+            r,
             refl,
             record {
               formula = s .formula;
@@ -206,8 +210,9 @@ module _ (mode : Mode) (i o : ℕ) (rule condition : List ℕ) (old : Buffers) (
               accepting-rest = s .accepting-rest;
               tables = won;
               verdict = said;
-              can-promise = λ e. can-keep (s .formula) i o n t a (maskOf (pass .assumption) i) (s .automaton) mode σ (said .system e .wins);
+              can-promise = λ e. can-keep (s .formula) i o n t a (maskOf (pass .assumption) i) (s .automaton) mode r σ (said .system e .1);
               cannot-promise = λ e. cannot-keep (s .formula) i o n t a (maskOf (pass .assumption) i) (s .automaton) mode τ (said .environment e .wins);
+              round = round-keep (s .formula) i o n t a (maskOf (pass .assumption) i) (s .automaton) mode r (said .round);
             },
           );
           refused = λ z. absurd (z refl);

@@ -1,11 +1,11 @@
 -- From the automaton of a formula to the rule call: on its arena a play reaches a goal exactly when a beginning of it, read as letters, satisfies the formula.
--- So a strategy that wins the game from state 0 keeps the promise that the rule call makes of it.
+-- So a strategy that wins the game from state 0 keeps the promise that the rule call makes of it, and the round number of the game is the rule's.
 -- Assumes nothing.
 use Prim.Native.Nat.{ℕ, zero, suc, _*_, _/_, _%_, _^_, _<_, _≤_}
 use mathlib.Core.Path.{_≡_, refl, sym, ap, _∙_, subst}
-use mathlib.Core.Bool.{Bool, true, false}
+use mathlib.Core.Bool.{true, false}
 use mathlib.Core.List.{List, [], _∷_}
-use mathlib.Core.Logic.{_⊎_, ⊎-elim, _↔_}
+use mathlib.Core.Logic.{_↔_}
 use native.Mathlib.Nat.{mul-le-mul-right, mul-pos, div-add-mod', div-lt-iff-lt-mul, mod-lt}
 use native.Mathlib.Omega.{arith}
 use lib.ListN.{length, getD, take}
@@ -28,10 +28,14 @@ use Rattle.plays.specs.declared.mode.Mode.{Mode}
 use Rattle.plays.specs.Arena.{Arena, arena, next, goal}
 use Rattle.plays.specs.Play.{Step, Legal, entered, standsOn, reaches, letters, Along}
 use Rattle.plays.specs.Strategy.{BySystem, ByEnvironment, SystemWins, EnvironmentWins}
+use Rattle.plays.specs.Way.{SystemWay, systemAfter, ByWay}
+use Rattle.plays.specs.Round.{RoundNumber}
+use Rattle.plays.specs.Endless.{Reaching}
 use Rattle.game.specs.inner.Game.{Valid}
 use Rattle.game.specs.Rule.{Satisfied, Can, Cannot}
 use Rattle.reader.proofs.BoolLaws.{on, clash}
 use Rattle.plays.proofs.PlayLaws.{take-along, take-letters, reaches-beginning, beginning-reaches}
+use Rattle.plays.proofs.RoundLaws.{round-map}
 use Rattle.game.proofs.IndexLaws.{letter-below}
 use Rattle.automaton.proofs.AlphabetLaws.{inputs-fit, outputs-fit}
 use Rattle.game.proofs.CheckLaws.{small-power}
@@ -51,6 +55,12 @@ module _ (G : Arena) where
   steps-letters R legal s (a ∷ p) h =
       let l = legal s a (h .0) in
       (letter-below (G .inputs) (G .outputs) (a .input) (a .output) (l .0) (l .1), steps-letters R legal (entered G s a) p (h .1))
+
+  -- a play by a way has its numbers in range
+  way-legal : (s : ℕ) (ω : SystemWay) (p : List Step) → ByWay G ω p → Along G (λ t a. Legal G a) s p
+  unfolding Along ByWay
+  way-legal s ω [] h = tt
+  way-legal s ω (a ∷ p) h = (h .0, way-legal (entered G s a) (systemAfter a ω) p (h .2))
 
 -- the start is a state
 pub some-state : {S : Type 0} {M : Machine S} {Good : Trace → Type 0} {L limit n : ℕ} {transitions flags : List ℕ}
@@ -131,8 +141,8 @@ module _ (φ : Formula) (i o n : ℕ) (transitions flags : List ℕ) (mask : ℕ
         accepting-long = omega arith;
       }
 
-  pub can-keep : (mode : Mode) (σ : List ℕ) → SystemWins mode G σ 0 → Can mode φ G σ
-  can-keep mode σ w =
+  pub can-keep : (mode : Mode) (r : ℕ) (σ : List ℕ) → SystemWins mode G r σ 0 → Can mode φ G r σ
+  can-keep mode r σ w =
       record {
         satisfying = λ p h o. reached-satisfied φ G on-product (BySystem G σ) (λ s a b. b .0) p h (w .reaching p h o);
         answers = λ p h never. w .answers p h
@@ -146,3 +156,11 @@ module _ (φ : Formula) (i o n : ℕ) (transitions flags : List ℕ) (mask : ℕ
         keeping = w .keeping;
         answers = w .answers;
       }
+
+  -- the round number that goes by goals goes by beginnings that satisfy the formula too
+  pub round-keep : (mode : Mode) (r : ℕ) → RoundNumber mode G (Reaching G 0) r → RoundNumber mode G (Satisfied φ G) r
+  round-keep mode r =
+      round-map mode G (Reaching G 0) (Satisfied φ G) r
+      (λ ω p by.
+      let h = way-legal G 0 ω p by in
+      (reached-satisfied φ G on-product (λ s a. Legal G a) (λ s a l. l) p h, satisfied-reached φ G on-product (λ s a. Legal G a) (λ s a l. l) p h))

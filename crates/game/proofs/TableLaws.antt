@@ -14,7 +14,20 @@ use Rattle.automaton.specs.Limits.{stateLimit}
 use Rattle.plays.specs.Arena.{Arena, next, goal, holds, lacks}
 use Rattle.plays.specs.inner.Rank.{judged, Safe, Falls, Ranked, AllowedInput}
 use Rattle.game.specs.Tables.{noMove}
-use Rattle.game.specs.inner.Bytes.{limitOf, Below, IsBelow, GoodOutput, SomeOutput, EveryOutput, Claim, FirstStop, IsSafe, SystemByte, EnvironmentByte}
+use Rattle.game.specs.inner.Bytes.{
+  limitOf,
+  Below,
+  IsBelow,
+  GoodOutput,
+  SomeOutput,
+  EveryOutput,
+  Claim,
+  FirstStop,
+  IsSafe,
+  SystemByte,
+  MixedByte,
+  EnvironmentByte,
+}
 use Rattle.game.proofs.ForcingLaws.{safe-map}
 use Rattle.reader.proofs.BoolLaws.{on, clash}
 
@@ -109,7 +122,7 @@ limit-falls G player true r s x t p false e d = (d .0, (λ h. absurd (mathlib.Co
 limit-falls G player false r s x t p false e d = (d .0, (λ h. absurd (mathlib.Core.Bool.false≢true (e ∙ h))), (λ h. absurd (mathlib.Core.Bool.false≢true h)))
 
 -- The same on the state that a step enters, for either player, where `limit` is that of the input.
-module _ (G : Arena) (player steady : Bool) (small : G .states ≤ stateLimit) (r : List ℕ) (rk : Ranked G player steady r) (s x : ℕ) (p : 0 < getD r s 0)
+module _ (G : Arena) (player steady : Bool) (small : G .states ≤ stateLimit) (r : List ℕ) (rk : Ranked G player steady (G .states) r) (s x : ℕ) (p : 0 < getD r s 0)
     (b : Bool) (eb : b ≡ judged G player x) (limit : ℕ) (el : limit ≡ limitOf steady b (getD r s 0)) where
   pub safe-limit : (t : ℕ) → Safe G player t (Falls G player steady r s x t) → Safe G player t (Below r limit t)
   safe-limit t =
@@ -120,7 +133,7 @@ module _ (G : Arena) (player steady : Bool) (small : G .states ≤ stateLimit) (
   limit-safe t = safe-map G player t (λ d. limit-falls G player steady r s x t p b eb (subst (λ (m : ℕ). Below r m t) el d))
 
 -- the system's byte: an output below the limit exists, and any such is allowed
-module _ (fair : Bool) (G : Arena) (small : G .states ≤ stateLimit) (r : List ℕ) (rk : Ranked G true fair r) (s x : ℕ) (p : 0 < getD r s 0)
+module _ (fair : Bool) (G : Arena) (small : G .states ≤ stateLimit) (r : List ℕ) (rk : Ranked G true fair (G .states) r) (s x : ℕ) (p : 0 < getD r s 0)
     (b : Bool) (eb : b ≡ holds G x) (limit : ℕ) (el : limit ≡ limitOf fair b (getD r s 0)) where
   pub some-output : x < G .inputs → SomeOutput G r limit s x
   some-output hx =
@@ -135,7 +148,7 @@ module _ (fair : Bool) (G : Arena) (small : G .states ≤ stateLimit) (r : List 
       }
 
 -- the environment's byte: an input all whose outputs are below the limit is allowed, and any other is not
-module _ (fair : Bool) (G : Arena) (small : G .states ≤ stateLimit) (r : List ℕ) (rk : Ranked G false (not fair) r) (s x : ℕ) (p : 0 < getD r s 0)
+module _ (fair : Bool) (G : Arena) (small : G .states ≤ stateLimit) (r : List ℕ) (rk : Ranked G false (not fair) (G .states) r) (s x : ℕ) (p : 0 < getD r s 0)
     (b : Bool) (eb : b ≡ lacks G x) (limit : ℕ) (el : limit ≡ limitOf (not fair) b (getD r s 0)) where
   pub allowed-every : AllowedInput fair G r s x → EveryOutput G r limit s x
   allowed-every h y l = safe-limit G false (not fair) small r rk s x p b eb limit el (next G s x y) (h .1 y l)
@@ -152,6 +165,14 @@ no-output fair G r s x e = record { none = λ _. refl; allowed = λ p. let z : �
 
 pub no-input : (fair : Bool) (G : Arena) (r : List ℕ) (s : ℕ) → getD r s 0 ≡ 0 → EnvironmentByte fair G r s noMove
 no-input fair G r s e = record { none = λ _. refl; allowed = λ p. let z : ⊥ = omega arith in absurd z }
+
+-- the system's byte by two ranks is its byte by the near ones where the state has one, and else by the far ones
+module _ {fair : Bool} {G : Arena} {near far : List ℕ} {s x b : ℕ} where
+  pub near-byte : (getD near s 0 ≡ 0 → ⊥) → SystemByte fair G near s x b → MixedByte fair G near far s x b
+  near-byte h d = record { by-near = d .allowed; by-far = λ e. absurd (h e) }
+
+  pub far-byte : getD near s 0 ≡ 0 → SystemByte fair G far s x b → MixedByte fair G near far s x b
+  far-byte e d = record { by-near = λ p. let z : ⊥ = omega arith in absurd z; by-far = λ _. d }
 
 -- a list that is filled from the front, by a rule for each index
 module _ (P : ℕ → ℕ → Type 0) (l₀ l : List ℕ) (i v : ℕ) (h : i < length l) where

@@ -10,7 +10,7 @@ use automaton::limits::STATE_LIMIT;
 ghost use mathlib.Core.Path.{_≡_};
 ghost use mathlib.Core.Bool.{true, false};
 ghost use Prim.Native.Nat.{_<_, _≤_};
-ghost use lib.ListN.{length};
+ghost use lib.ListN.{length, getD};
 ghost use Rattle.automaton.specs.Limits.{stateLimit};
 ghost use Rattle.automaton.specs.Bits.{bit};
 ghost use Rattle.game.specs.inner.Game.{arenaOf, Valid};
@@ -30,11 +30,15 @@ ghost use Rattle.game.specs.inner.Solver.{
   Stands,
   Yields,
   raisedNeed,
+  Marked,
   Bounds,
+  Swept,
   Settled,
+  UnrankedBeaten,
   Narrowed,
   Solves,
 };
+ghost use Rattle.plays.specs.inner.Rank.{Ranked};
 
 // The ranks of both players, 0 for none.
 pub struct Ranks {
@@ -72,11 +76,11 @@ fn serves(
     s: usize,
     x: usize,
     y: usize,
-    judged: bool,
+    holds: bool,
 ) -> bool
     requires { ⌜ Valid (arenaOf g (now transitions) (now accepting)) ⌝ }
     requires { ⌜ (s < g .states) × (x < g .inputs) × (y < g .outputs) ⌝ }
-    requires { ⌜ judged ≡ bit (g .mask) x ⌝ }
+    requires { ⌜ holds ≡ bit (g .mask) x ⌝ }
     ensures { λ r. ⌜ r ≡ serving (arenaOf g (now (transitions .entry)) (now (accepting .entry)))
         (rankedBelow (limits .won) (now (won .entry))) (safeBelow (limits .inside) (limits .safe) (now (safe .entry))) s x y ⌝ }
 {
@@ -84,7 +88,7 @@ fn serves(
     if accepting[t] != 0 {
         return true;
     }
-    if judged {
+    if holds {
         return ranked_below(limits.won, won, t);
     }
     ranked_below(limits.safe, safe, t) == limits.inside
@@ -121,7 +125,7 @@ fn unserved(
     let mut x: usize = 0;
     'inputs: while x < inputs {
         let at = s * inputs + x;
-        let judged = has_condition(g.mask, x);
+        let holds = has_condition(g.mask, x);
         let mut y = wide(witness[at]);
         let mut tried: usize = 0;
         loop {
@@ -129,7 +133,7 @@ fn unserved(
                 break 'inputs;
             }
             y = wrapped(y, outputs);
-            if serves(g, transitions, accepting, won, safe, limits, s, x, y, judged) {
+            if serves(g, transitions, accepting, won, safe, limits, s, x, y, holds) {
                 break;
             }
             tried += 1;
@@ -340,6 +344,11 @@ fn sweep(
     needs: &mut [Rank; STATE_LIMIT],
     witness: &mut [u8; STATE_LIMIT * NUMBER_LIMIT],
 ) -> bool
+    requires { ⌜ Valid (arenaOf g (now transitions) (now accepting)) ⌝ }
+    requires { ⌜ Bounds (arenaOf g (now transitions) (now accepting)) limit (now needs) ⌝ }
+    requires { ⌜ (limit ≤ stateLimit) × (length (now needs) ≡ stateLimit) ⌝ }
+    ensures { λ r. ⌜ Swept (arenaOf g (now (transitions .entry)) (now (accepting .entry))) limit (now (needs .entry)) (now (needs .exit)) (g .states) r ⌝ }
+    ensures { λ r. ⌜ length (now (needs .exit)) ≡ stateLimit ⌝ }
 {
     let states = g.states;
     let mut lifted = false;
@@ -363,12 +372,19 @@ fn settle(
     needs: &mut [Rank; STATE_LIMIT],
     witness: &mut [u8; STATE_LIMIT * NUMBER_LIMIT],
 )
+    requires { ⌜ Valid (arenaOf g (now transitions) (now accepting)) ⌝ }
+    requires { ⌜ Bounds (arenaOf g (now transitions) (now accepting)) limit (now needs) ⌝ }
+    requires { ⌜ (limit ≤ stateLimit) × (length (now needs) ≡ stateLimit) ⌝ }
+    ensures { λ r. ⌜ Settled (arenaOf g (now (transitions .entry)) (now (accepting .entry))) limit (now (needs .entry)) (now (needs .exit)) ⌝ }
+    ensures { λ r. ⌜ length (now (needs .exit)) ≡ stateLimit ⌝ }
 {
     while sweep(g, transitions, accepting, limit, needs, witness) {}
 }
 
 // The needs to begin with: 1 for each of the n states that the system wins.
 fn first_needs(system: &[Rank; STATE_LIMIT], n: usize) -> [Rank; STATE_LIMIT]
+    requires { ⌜ n ≤ stateLimit ⌝ }
+    ensures { λ r. ⌜ Marked n (now (system .entry)) r ⌝ }
 {
     let mut needs: [Rank; STATE_LIMIT] = [0; STATE_LIMIT];
     let mut s: usize = 0;
@@ -397,6 +413,10 @@ fn narrow(
     system: &[Rank; STATE_LIMIT],
     witness: &mut [u8; STATE_LIMIT * NUMBER_LIMIT],
 ) -> Needs
+    requires { ⌜ Valid (arenaOf g (now transitions) (now accepting)) ⌝ }
+    requires { ⌜ (start < g .states) × (0 < getD (now system) start 0) ⌝ }
+    requires { ⌜ Ranked (arenaOf g (now transitions) (now accepting)) true false (g .states) (now system) ⌝ }
+    requires { ⌜ UnrankedBeaten (arenaOf g (now transitions) (now accepting)) (now system) ⌝ }
     ensures { λ r. ⌜ Narrowed (arenaOf g (now (transitions .entry)) (now (accepting .entry))) start (now (system .entry)) (r .ranks) (r .limit) ⌝ }
 {
     let mut best: [Rank; STATE_LIMIT] = *system;
@@ -442,24 +462,27 @@ fn numbered(
     let system = ranks.system;
     let environment = ranks.environment;
     if g.fair {
+        let round = system[start];
         return Solution {
             near: system,
             system: system,
             environment: environment,
-            round: system[start],
+            round: round,
         };
     }
     if environment[start] != 0 {
+        let none: [Rank; STATE_LIMIT] = [0; STATE_LIMIT];
         return Solution {
-            near: [0; STATE_LIMIT],
+            near: none,
             system: system,
             environment: environment,
             round: 0,
         };
     }
     let needs = narrow(g, transitions, accepting, start, &system, witness);
+    let near = needs.ranks;
     Solution {
-        near: needs.ranks,
+        near: near,
         system: system,
         environment: environment,
         round: needs.limit,

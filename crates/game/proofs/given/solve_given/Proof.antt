@@ -1,9 +1,8 @@
 -- `game::given::solve_given` meets its contract: the refusal that comes first, or the tables and the verdict of the game of these numbers.
 -- Assumes nothing.
 use borrow.Author.Needs.{needs}
-use mathlib.Core.Path.{_≡_, sym, _∙_, subst, subst₂}
+use mathlib.Core.Path.{_≡_, sym, _∙_, subst}
 use mathlib.Core.List.{List}
-use mathlib.Core.Bool.{Bool, true, false}
 use Prim.Native.Nat.{ℕ, _*_, _<_, _≤_}
 use lib.ListN.{length}
 use denote.Ref.{now}
@@ -54,22 +53,25 @@ accepts c =
 abbrev told-of : tie.After-decide → tie.After-enum-told
 told-of d = d .before .before .before .before
 
-decided : (d : tie.After-decide) (can : Bool) → d .decide .result ≡ can
-    → Promise (start-of (told-of d)) (first (start-of (told-of d))) (d .decide .last .1 .1 .1 .1 .0) (d .decide .last .1 .1 .1 .1 .1 .0)
-    (verdictOf can (start-of (told-of d) .args .n))
-decided d can e =
+abbrev Decided : tie.After-decide → Answer → Type 0
+Decided d r =
+    let z = start-of (told-of d) in
+    Promise z (first z) (d .decide .last .1 .1 .1 .1 .0) (d .decide .last .1 .1 .1 .1 .1 .0) r
+
+decided : (d : tie.After-decide) → Decided d (verdictOf (start-of (told-of d) .args .n) (d .decide .result))
+decided d =
     let z = start-of (told-of d) in
     let a = z .args in
     let σ = d .decide .last .1 .1 .1 .1 .0 in
     let τ = d .decide .last .1 .1 .1 .1 .1 .0 in
+    let r = d .decide .result in
     let is = d .before .before .before .game-of .ensures in
-    solved-served (first z) (a .mode) (a .start) (G z) (now (a .system)) (now (a .environment)) σ τ can (nothing (told-of d))
+    solved-served (first z) (a .mode) (a .start) (G z) (now (a .system)) (now (a .environment)) σ τ r (nothing (told-of d))
     (subst (λ (m : Mode). Tables m (G z) (now (a .system)) (now (a .environment)) σ τ) (same-mode (a .mode))
     (subst (λ (g : Game). Tables (modeOf (g .fair)) (arenaOf g (now (a .transitions)) (now (a .accepting))) (now (a .system)) (now (a .environment)) σ τ) is
     (d .decide .ensures .0)))
-    (subst₂ (λ (m : Mode) (b : Bool). Verdict m (G z) σ τ (a .start) b) (same-mode (a .mode)) e
-    (subst (λ (g : Game). Verdict (modeOf (g .fair)) (arenaOf g (now (a .transitions)) (now (a .accepting))) σ τ (a .start) (d .decide .result)) is
-    (d .decide .ensures .1)))
+    (subst (λ (m : Mode). Verdict m (G z) σ τ (a .start) r) (same-mode (a .mode))
+    (subst (λ (g : Game). Verdict (modeOf (g .fair)) (arenaOf g (now (a .transitions)) (now (a .accepting))) σ τ (a .start) r) is (d .decide .ensures .1)))
 
 pub solve-given-spec : {M : Type 1} → statement M
 solve-given-spec =
@@ -91,12 +93,11 @@ solve-given-spec =
     let a = start-of k .args in
     let w = accepts k in
     subst (λ (g : Game). Valid (arenaOf g (now (a .transitions)) (now (a .accepting)))
-    × ((a .start < g .states) × ((0 < g .inputs) × (stateLimit * g .inputs ≤ length (now (a .system))) × (stateLimit ≤ length (now (a .environment))))))
+    × ((a .start < g .states)
+    × ((0 < g .inputs) × (0 < g .outputs) × (stateLimit * g .inputs ≤ length (now (a .system))) × (stateLimit ≤ length (now (a .environment))))))
     (sym (c .before .before .game-of .ensures))
-    (w .valid, (w .start-fits, (w .inputs-some, w .system-long, w .environment-long))))
+    (w .valid, (w .start-fits, (w .inputs-some, w .outputs-some, w .system-long, w .environment-long))))
+    (λ c κs. search needs)
     (λ c. search needs)
     (λ c. search needs)
-    (λ c. decided (c .before .before .before .before .before) true (c .if1 .taken))
-    (λ c. search needs)
-    (λ c. search needs)
-    (λ c. decided (c .before .before .before .before .before) false (c .if1 .left)))
+    (λ c. let d = c .before .before .before .before .before in subst (Decided d) (sym (c .verdict .ensures)) (decided d)))

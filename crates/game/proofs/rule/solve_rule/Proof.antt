@@ -1,9 +1,8 @@
 -- `game::rule::solve_rule` meets its contract: a refusal before the automaton, 9, or the tables and the verdict of the game on the automaton.
 -- Assumes nothing.
 use borrow.Author.Needs.{needs}
-use mathlib.Core.Path.{_≡_, refl, sym, subst, subst₂}
+use mathlib.Core.Path.{refl, sym, subst}
 use mathlib.Core.List.{List}
-use mathlib.Core.Bool.{Bool, true, false}
 use Prim.Native.Nat.{ℕ, _*_, _<_, _≤_}
 use lib.ListN.{length}
 use denote.Ref.{now}
@@ -14,6 +13,7 @@ use Rattle.automaton.specs.declared.construct.Construction.{Construction}
 use Rattle.automaton.specs.declared.construct.Construction.the-variants.{Built}
 use Rattle.automaton.specs.Construction.{Constructed}
 use Rattle.game.specs.declared.arena.Game.{Game}
+use Rattle.game.specs.declared.answer.Answer.{Answer}
 use Rattle.game.specs.Answer.{verdictOf}
 use Rattle.plays.specs.declared.mode.Mode.{Mode}
 use Rattle.plays.specs.Arena.{Arena, arena}
@@ -74,27 +74,30 @@ made c =
 abbrev built-of : tie.After-decide → tie.After-known-told2
 built-of d = d .before .before .before .before .before .before
 
-decided : (d : tie.After-decide) (can : Bool) → d .decide .result ≡ can
-    → RuleSolved (start-of (told-of (built-of d)) .args .mode) (start-of (told-of (built-of d)) .args .i) (start-of (told-of (built-of d)) .args .o)
-    (now (start-of (told-of (built-of d)) .args .rule)) (now (start-of (told-of (built-of d)) .args .condition))
-    (old (start-of (told-of (built-of d))))
-    (buffers (new-transitions (built-of d)) (new-accepting (built-of d)) (d .decide .last .1 .1 .1 .1 .0) (d .decide .last .1 .1 .1 .1 .1 .0))
-    (verdictOf can (states (built-of d)))
-decided d can e =
+abbrev Decided : tie.After-decide → Answer → Type 0
+Decided d r =
+    let k = built-of d in
+    let a = start-of (told-of k) .args in
+    RuleSolved (a .mode) (a .i) (a .o) (now (a .rule)) (now (a .condition)) (old (start-of (told-of k)))
+    (buffers (new-transitions k) (new-accepting k) (d .decide .last .1 .1 .1 .1 .0) (d .decide .last .1 .1 .1 .1 .1 .0)) r
+
+decided : (d : tie.After-decide) → Decided d (verdictOf (states (built-of d)) (d .decide .result))
+decided d =
     let k = built-of d in
     let t = told-of k in
     let a = start-of t .args in
     let σ = d .decide .last .1 .1 .1 .1 .0 in
     let τ = d .decide .last .1 .1 .1 .1 .1 .0 in
+    let r = d .decide .result in
     let is = d .before .before .before .before .before .game-of .ensures in
     let G : Arena = arena (a .i) (a .o) (states k) (new-transitions k) (new-accepting k) (mask-of t) in
     answered (a .mode) (a .i) (a .o) (now (a .rule)) (now (a .condition)) (old (start-of t)) (mask-of t) (checked t) (new-transitions k) (new-accepting k)
-    (states k) (made k) σ τ can
+    (states k) (made k) σ τ r
     (subst (λ (m : Mode). Tables m G (now (a .system)) (now (a .environment)) σ τ) (same-mode (a .mode))
     (subst (λ (g : Game). Tables (modeOf (g .fair)) (arenaOf g (new-transitions k) (new-accepting k)) (now (a .system)) (now (a .environment)) σ τ) is
     (d .decide .ensures .0)))
-    (subst₂ (λ (m : Mode) (b : Bool). Verdict m G σ τ 0 b) (same-mode (a .mode)) e
-    (subst (λ (g : Game). Verdict (modeOf (g .fair)) (arenaOf g (new-transitions k) (new-accepting k)) σ τ 0 (d .decide .result)) is (d .decide .ensures .1)))
+    (subst (λ (m : Mode). Verdict m G σ τ 0 r) (same-mode (a .mode))
+    (subst (λ (g : Game). Verdict (modeOf (g .fair)) (arenaOf g (new-transitions k) (new-accepting k)) σ τ 0 r) is (d .decide .ensures .1)))
 
 pub solve-rule-spec : {M : Type 1} → statement M
 solve-rule-spec =
@@ -123,21 +126,18 @@ solve-rule-spec =
     let w = tables-fit (a .mode) (a .i) (a .o) (now (a .rule)) (now (a .condition)) (old (start-of t)) (mask-of t) (checked t) (new-transitions k)
     (new-accepting k) in
     subst (λ (g : Game). Valid (arenaOf g (new-transitions k) (new-accepting k))
-    × ((0 < g .states) × ((0 < g .inputs) × (stateLimit * g .inputs ≤ length (now (a .system))) × (stateLimit ≤ length (now (a .environment))))))
+    × ((0 < g .states)
+    × ((0 < g .inputs) × (0 < g .outputs) × (stateLimit * g .inputs ≤ length (now (a .system))) × (stateLimit ≤ length (now (a .environment))))))
     (sym (c .before .before .before .before .game-of .ensures)) (
       valid (a .mode) (a .i) (a .o) (now (a .rule)) (now (a .condition)) (old (start-of t)) (mask-of t) (checked t) (new-transitions k) (new-accepting k)
           (states k) (made k),
       (
         starts (a .mode) (a .i) (a .o) (now (a .rule)) (now (a .condition)) (old (start-of t)) (mask-of t) (checked t) (new-transitions k) (new-accepting k)
             (states k) (made k),
-        (w .0, w .1, w .2),
+        w,
       ),
     ))
-    (λ c. search needs)
-    (λ c. search needs)
-    (λ c. search needs)
-    (λ c. search needs)
-    (λ c. decided (c .before .before .before .before .before) true (c .if1 .taken))
+    (λ c κs. search needs)
     (λ c. search needs)
     (λ c. search needs)
     (λ c. search needs)
@@ -155,4 +155,4 @@ solve-rule-spec =
     (λ c. search needs)
     (λ c. search needs)
     (λ c. search needs)
-    (λ c. decided (c .before .before .before .before .before) false (c .if1 .left)))
+    (λ c. let d = c .before .before .before .before .before in subst (Decided d) (sym (c .verdict .ensures)) (decided d)))

@@ -11,20 +11,20 @@ use denote.Ref.{now}
 use Rattle.automaton.specs.Limits.{stateLimit}
 use Rattle.game.specs.inner.Game.{arenaOf}
 use native.Mathlib.Nat.{div-lt-iff-lt-mul, mod-lt}
-use Rattle.game.specs.inner.Bytes.{SystemByte}
+use Rattle.game.specs.inner.Bytes.{MixedByte}
 use Rattle.game.proofs.TableLaws.{fill-below, fill-rest}
 use Rattle.game.proofs.tables.fill_system.Statement.{statement}
 use Rattle.game.proofs.tables.fill_system.Tie as tie
 
 abbrev Inv-loop : tie.InvT-loop
-Inv-loop g transitions accepting ranks system₀ inputs total k₀ system k =
+Inv-loop g transitions accepting near far system₀ inputs total k₀ system k =
     (k ≤ stateLimit * g .inputs)
-    × ((j : ℕ) → j < k → SystemByte (g .fair) (arenaOf g transitions accepting) ranks (j / g .inputs) (j % g .inputs) (getD system j 0))
+    × ((j : ℕ) → j < k → MixedByte (g .fair) (arenaOf g transitions accepting) near far (j / g .inputs) (j % g .inputs) (getD system j 0))
     × ((j : ℕ) → k ≤ j → getD system j 0 ≡ getD system₀ j 0)
     × (length system ≡ length system₀)
 
 abbrev μ-loop : tie.MeasureT-loop
-μ-loop g transitions accepting ranks system₀ inputs total k₀ system k = stateLimit * g .inputs - k
+μ-loop g transitions accepting near far system₀ inputs total k₀ system k = stateLimit * g .inputs - k
 
 pub fill-system-spec : {M : Type 1} → statement M
 fill-system-spec =
@@ -34,21 +34,22 @@ fill-system-spec =
     μ-loop
     (λ c. omega (arith, c .before .before .before .pre .0 .moving .inputs-fit))
     (λ c. (search needs, below-none _, (λ k _. refl), refl))
-    (λ c. c .before .before .before .before .before .pre .1 .1 .0)
-    (λ c. c .before .before .before .before .before .pre .1 .1 .0)
+    (λ c. c .before .before .before .before .before .pre .1 .1 .1 .0)
+    (λ c. c .before .before .before .before .before .pre .1 .1 .1 .0)
     (λ c κs.
     let z = c .before .before .before .before .before in
-    (z .pre .0, (z .pre .1 .0, (div-lt-iff-lt-mul (z .pre .1 .1 .0) .1 (c .loop-test .taken), mod-lt (c .before .loop .k) (z .pre .1 .1 .0)))))
-    (λ c. omega (arith, c .before .before .before .before .before .before .pre .1 .1))
+    let p = z .pre .1 .1 .1 .0 in
+    (z .pre .0, (z .pre .1 .0, (z .pre .1 .1 .0, (div-lt-iff-lt-mul p .1 (c .loop-test .taken), mod-lt (c .before .loop .k) p)))))
+    (λ c. omega (arith, c .before .before .before .before .before .before .pre .1 .1 .1))
     (λ c. omega (arith, c .before .before .before .before .before .before .pre .0 .moving .inputs-fit))
     (λ c. omega arith)
     (λ c.
     let z = c .before .before .before .before .before .before in
     let l = c .before .before .loop in
-    let b = c .system-byte in
-    let fits : l .k < length (l .system) = omega (arith, z .pre .1 .1) in
-    let P : ℕ → ℕ → Type 0 = λ k v. SystemByte (z .args .g .fair) (arenaOf (z .args .g) (now (z .args .transitions)) (now (z .args .accepting)))
-    (now (z .args .ranks)) (k / z .args .g .inputs) (k % z .args .g .inputs) v in (
+    let b = c .mixed-byte in
+    let fits : l .k < length (l .system) = omega (arith, z .pre .1 .1 .1) in
+    let P : ℕ → ℕ → Type 0 = λ k v. MixedByte (z .args .g .fair) (arenaOf (z .args .g) (now (z .args .transitions)) (now (z .args .accepting)))
+    (now (z .args .near)) (now (z .args .far)) (k / z .args .g .inputs) (k % z .args .g .inputs) v in (
       omega arith,
       fill-below P (now (z .args .system)) (l .system) (l .k) (b .result) fits (l .inv .1) (b .ensures),
       fill-rest P (now (z .args .system)) (l .system) (l .k) (b .result) fits (l .inv .2),

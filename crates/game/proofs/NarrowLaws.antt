@@ -1,0 +1,238 @@
+-- Laws of the limit that goes down: the needs to begin with, one limit less, the last limit, and the solver's three answers.
+-- Assumes nothing.
+use mathlib.Core.Path.{_≡_, refl, sym, ap, _∙_, subst}
+use mathlib.Core.Bool.{Bool, true, false}
+use mathlib.Core.List.{List}
+use mathlib.Core.Logic.{_⊎_, ⊎-elim}
+use Prim.Native.Nat.{ℕ, _+_, _-_, _<_, _≤_}
+use native.Mathlib.Omega.{arith}
+use lib.ListN.{length, getD, set}
+use lib.Seq.{getD-set-same, getD-set-other}
+use Rattle.plays.specs.Arena.{Arena}
+use Rattle.plays.specs.inner.Rank.{Ranked, Ranking}
+use Rattle.plays.specs.inner.Beaten.{Beaten, over}
+use Rattle.game.specs.inner.Solver.{Found, Marked, Bounds, Kept, Settled, UnrankedBeaten, Narrowed, Solves}
+use Rattle.plays.proofs.CaseLaws.{zero-or, same-or}
+use Rattle.plays.proofs.BeatenLaws.{beaten-less, beaten-limit, held-beaten}
+
+-- ---- the needs to begin with
+
+-- before the first state
+pub none-marked : (system needs : List ℕ) → ((t : ℕ) → getD needs t 0 ≡ 0) → Marked 0 system needs
+none-marked system needs z =
+    record {
+      small = λ t. omega (arith, z t);
+      won = λ t p. let e = z t in absurd (let q : ⊥ = omega arith in q);
+      every = λ t h. absurd (let q : ⊥ = omega arith in q);
+    }
+
+-- one more state
+module _ {system needs : List ℕ} {n : ℕ} (so-far : Marked n system needs) where
+  -- without a rank
+  pub mark-stays : getD system n 0 ≡ 0 → Marked (n + 1) system needs
+  mark-stays none =
+      record {
+        small = so-far .small;
+        won = λ t p. let w = so-far .won t p in (omega arith, w .1);
+        every = λ t h p.
+            same-or t n
+            (λ e. let q = ap (λ (i : ℕ). getD system i 0) e in absurd (let z : ⊥ = omega arith in z))
+            (λ d. so-far .every t (omega arith) p);
+      }
+
+  -- with one
+  module _ (long : n < length needs) (some : 0 < getD system n 0) where
+    same : (t : ℕ) → t ≡ n → getD (set needs n 1) t 0 ≡ 1
+    same t e = ap (λ (i : ℕ). getD (set needs n 1) i 0) e ∙ getD-set-same needs n 1 0 long
+
+    other : (t : ℕ) → (t ≡ n → ⊥) → getD (set needs n 1) t 0 ≡ getD needs t 0
+    other t d = getD-set-other needs n t 1 0 d
+
+    pub mark-more : Marked (n + 1) system (set needs n 1)
+    mark-more =
+        record {
+          small = λ t. same-or t n (λ e. omega (arith, same t e)) (λ d. omega (arith, other t d, so-far .small t));
+          won = λ t p.
+              same-or t n
+              (λ e. (omega arith, subst (λ (i : ℕ). 0 < getD system i 0) (sym e) some))
+              (λ d. let q = other t d in let w = so-far .won t (omega arith) in (omega arith, w .1));
+          every = λ t h p.
+              same-or t n
+              (λ e. omega (arith, same t e))
+              (λ d. omega (arith, other t d, so-far .every t (omega arith) p));
+        }
+
+-- the same marks, by another name for the number of states passed
+pub mark-over : {system needs : List ℕ} {k n : ℕ} → k ≡ n → Marked k system needs → Marked n system needs
+mark-over {system} {needs} e h = subst (λ (i : ℕ). Marked i system needs) e h
+
+-- with these needs the system is beaten as they say, whatever the limit
+pub marked-bounds : {G : Arena} {system needs : List ℕ} → Marked (G .states) system needs → UnrankedBeaten G system → (l : ℕ) → Bounds G l needs
+marked-bounds {G} {system} {needs} m lost l =
+    record {
+      within = λ t p. m .won t p .0;
+      small = λ t. omega (arith, m .small t);
+      beaten = λ s k hs kl q.
+          zero-or (getD system s 0)
+          (λ e. lost s hs e l k)
+          (λ p. over (omega (arith, m .small s, q (m .every s hs p))));
+    }
+
+-- ---- the limit goes down
+
+-- the needs with the limit m so far: `best` stand with it, and `needs` are to be settled with the limit m - 1
+pub record Narrowing (G : Arena) (start : ℕ) (system best needs : List ℕ) (m : ℕ) : Type 0 where
+  pub positive : 0 < m
+  pub few : m ≤ G .states
+  pub ranked : Ranked G true false m best
+  pub won : Kept system best
+  pub here : 0 < getD best start 0
+  pub bounds : Bounds G (m - 1) needs
+  pub needs-won : Kept system needs
+
+-- the first limit is the number of states
+pub narrow-starts : {G : Arena} {start : ℕ} {system needs : List ℕ} → start < G .states → Ranked G true false (G .states) system → UnrankedBeaten G system
+    → 0 < getD system start 0 → Marked (G .states) system needs → Narrowing G start system system needs (G .states)
+narrow-starts {G} h ranked lost here m =
+    record {
+      positive = omega arith;
+      few = omega arith;
+      ranked = ranked;
+      won = λ t p. p;
+      here = here;
+      bounds = marked-bounds m lost (G .states - 1);
+      needs-won = λ t p. m .won t p .1;
+    }
+
+-- a limit less by one: a need is at most the limit it stands with, which is one more than the next
+bounds-less : {G : Arena} {l : ℕ} {needs : List ℕ} → 0 < l → Bounds G l needs → Ranked G true false l needs → Bounds G (l - 1) needs
+bounds-less {G} {l} pos b r =
+    record {
+      within = b .within;
+      small = λ t. omega (arith, r .bound t);
+      beaten = λ s k hs kl q. beaten-less false G l (l - 1) (omega arith) s k (b .beaten s k hs (omega arith) q) k (omega arith);
+    }
+
+module _ {G : Arena} {start : ℕ} {system best old needs : List ℕ} {m : ℕ} (so-far : Narrowing G start system best old m)
+    (settled : Settled G (m - 1) old needs) (more : 1 < m) where
+  -- the start kept a need
+  pub narrow-more : (getD needs start 0 ≡ 0 → ⊥) → Narrowing G start system needs needs (m - 1)
+  narrow-more h =
+      let f = so-far .few in
+      record {
+        positive = omega arith;
+        few = omega arith;
+        ranked = settled .ranked;
+        won = λ t p. so-far .needs-won t (settled .kept t p);
+        here = omega arith;
+        bounds = bounds-less (omega arith) (settled .bounds) (settled .ranked);
+        needs-won = λ t p. so-far .needs-won t (settled .kept t p);
+      }
+
+  -- it lost it
+  pub narrow-ends : start < G .states → getD needs start 0 ≡ 0 → Narrowed G start system best m
+  narrow-ends hs e =
+      let b = settled .bounds .beaten start (m - 1) hs (omega arith) (λ p. absurd (let z : ⊥ = omega arith in z)) in
+      record {
+        positive = so-far .positive;
+        few = so-far .few;
+        ranked = so-far .ranked;
+        won = so-far .won;
+        here = so-far .here;
+        beaten = λ k h. beaten-limit false G (m - 1) start b k (omega arith);
+      }
+
+-- the limit is 1
+pub narrow-least : {G : Arena} {start : ℕ} {system best needs : List ℕ} {m : ℕ} → Narrowing G start system best needs m → m ≤ 1
+    → Narrowed G start system best m
+narrow-least so-far h =
+    record {
+      positive = so-far .positive;
+      few = so-far .few;
+      ranked = so-far .ranked;
+      won = so-far .won;
+      here = so-far .here;
+      beaten = λ k l. let z : k ≡ 0 = omega arith in over z;
+    }
+
+-- ---- the solver's three answers
+
+-- the states without a rank of the system have one of the environment
+pub unranked-beaten : {G : Arena} {system environment : List ℕ} → Ranking false G system environment → UnrankedBeaten G system
+unranked-beaten {G} {environment = environment} r s hs e m k =
+    ⊎-elim
+    (λ w. absurd (let z : ⊥ = omega arith in z))
+    (λ w. held-beaten G (G .states) environment (r .of-environment) m s k (w .1))
+    (r .each s hs)
+
+-- a state where the environment has no rank
+system-ranked : {fair : Bool} {G : Arena} {system environment : List ℕ} → Ranking fair G system environment → (s : ℕ) → s < G .states
+    → getD environment s 0 ≡ 0 → 0 < getD system s 0
+system-ranked r s hs e = ⊎-elim (λ w. w .0) (λ w. absurd (let z : ⊥ = omega arith in z)) (r .each s hs)
+
+environment-ranked : {fair : Bool} {G : Arena} {system environment : List ℕ} → Ranking fair G system environment → (s : ℕ) → s < G .states
+    → getD system s 0 ≡ 0 → 0 < getD environment s 0
+environment-ranked r s hs e = ⊎-elim (λ w. absurd (let z : ⊥ = omega arith in z)) (λ w. w .1) (r .each s hs)
+
+-- a larger bound on the ranks
+wider : {G : Arena} {most n : ℕ} {r : List ℕ} → most ≤ n → Ranked G true false most r → Ranked G true false n r
+wider le h = record { within = h .within; bound = λ t. omega (arith, h .bound t); forced = h .forced }
+
+module _ {fair : Bool} {G : Arena} {start : ℕ} {system environment : List ℕ} (hs : start < G .states) (found : Found fair G system environment) where
+  -- fair: the round number is the start's rank
+  pub solves-fair : fair ≡ true → Solves fair G start system system environment (getD system start 0)
+  solves-fair e =
+      let r = found .ranking in
+      record {
+        ranking = r;
+        near-ranked = r .of-system;
+        near-won = λ t p. p;
+        near-fair = λ q. refl;
+        can = λ p. p;
+        cannot = environment-ranked r start hs;
+        fair-bound = λ q. omega arith;
+        stable-bound = λ q. absurd (mathlib.Core.Bool.true≢false (sym e ∙ q));
+        beaten = λ k h. subst (λ (f : Bool). Beaten f G k start k) (sym e) (found .beaten e start k k hs h);
+      }
+
+  module _ (e : fair ≡ false) where
+    -- stable, and the environment has a rank at the start
+    pub solves-cannot : (near : List ℕ) → ((t : ℕ) → getD near t 0 ≡ 0) → (getD environment start 0 ≡ 0 → ⊥) → Solves fair G start near system environment 0
+    solves-cannot near z p =
+        record {
+          ranking = found .ranking;
+          near-ranked =
+              record {
+                within = λ t q. let w = z t in absurd (let o : ⊥ = omega arith in o);
+                bound = λ t. omega (arith, z t);
+                forced = λ t q. let w = z t in absurd (let o : ⊥ = omega arith in o);
+              };
+          near-won = λ t q. let w = z t in absurd (let o : ⊥ = omega arith in o);
+          near-fair = λ q. absurd (mathlib.Core.Bool.true≢false (sym q ∙ e));
+          can = λ q. absurd (let o : ⊥ = omega arith in o);
+          cannot = λ q. omega arith;
+          fair-bound = λ q. omega (arith, z start);
+          stable-bound = λ q t. omega (arith, z t);
+          beaten = λ k h. absurd (let o : ⊥ = omega arith in o);
+        }
+
+    -- stable, and the system has one: what `narrow` asks for
+    pub asks-narrow : getD environment start 0 ≡ 0 → Ranked G true false (G .states) system × UnrankedBeaten G system × (0 < getD system start 0)
+    asks-narrow p =
+        let r = subst (λ (f : Bool). Ranking f G system environment) e (found .ranking) in
+        (r .of-system, unranked-beaten r, system-ranked r start hs p)
+
+    -- and what its answer is for
+    pub solves-stable : {near : List ℕ} {m : ℕ} → Narrowed G start system near m → Solves fair G start near system environment m
+    solves-stable {near} n =
+        record {
+          ranking = found .ranking;
+          near-ranked = subst (λ (f : Bool). Ranked G true f (G .states) near) (sym e) (wider (n .few) (n .ranked));
+          near-won = n .won;
+          near-fair = λ q. absurd (mathlib.Core.Bool.true≢false (sym q ∙ e));
+          can = λ q. n .here;
+          cannot = λ q. let p = n .positive in absurd (let o : ⊥ = omega arith in o);
+          fair-bound = λ q. n .ranked .bound start;
+          stable-bound = λ q. n .ranked .bound;
+          beaten = λ k h. subst (λ (f : Bool). Beaten f G k start k) (sym e) (n .beaten k h);
+        }

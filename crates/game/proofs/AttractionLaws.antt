@@ -9,7 +9,7 @@ use lib.Dec.{ltb, leb}
 use borrow.Author.Tests.{ltb-true, ltb-false, leb-true, leb-false}
 use Rattle.game.specs.inner.Limits.{rankLimit}
 use Rattle.plays.specs.Arena.{Arena}
-use Rattle.game.specs.inner.Solver.{rankedBelow, Unranked, Apart, FirstUnserved, Attracted}
+use Rattle.game.specs.inner.Solver.{rankedBelow, safeBelow, Unranked, Apart, FirstUnserved, Attracted}
 use Rattle.reader.proofs.BoolLaws.{on}
 use Rattle.game.proofs.LimitLaws.{ranked-below, none-below}
 use Rattle.game.proofs.ServingLaws.{all-served, one-unserved}
@@ -30,21 +30,21 @@ module _ (outer inner : List ℕ) (p : ℕ) (apart : Apart outer inner) (t : ℕ
 
 module _ {fair : Bool} {G : Arena} {outer inner : List ℕ} {p s r : ℕ} (apart : Apart outer inner) (un : Unranked outer inner s) where
   -- fair: the environment attracts where some input is unserved
-  pub attracted-fair : fair ≡ true → FirstUnserved G (rankedBelow rankLimit outer) (rankedBelow p inner) s r
+  pub attracted-fair : fair ≡ true → FirstUnserved G (rankedBelow rankLimit outer) (safeBelow false p inner) s r
       → Attracted fair G outer inner p s (ltb r (G .inputs))
   attracted-fair e u =
       subst (λ (f : Bool). Attracted f G outer inner p s (ltb r (G .inputs))) (sym e)
       (record {
-        gains = λ h. (un, one-unserved u (not-outer outer inner p apart) (ltb-true r (G .inputs) h));
-        stays = λ h z. all-served u (ltb-false r (G .inputs) h);
+        gains = λ h. (un, one-unserved (not-inner outer inner p apart) u (ltb-true r (G .inputs) h));
+        stays = λ h z. all-served (not-inner outer inner p apart) u (ltb-false r (G .inputs) h);
       })
 
   -- stable: the system attracts where every input is served
-  pub attracted-stable : fair ≡ false → FirstUnserved G (rankedBelow p inner) (rankedBelow rankLimit outer) s r
+  pub attracted-stable : fair ≡ false → FirstUnserved G (rankedBelow p inner) (safeBelow false rankLimit outer) s r
       → Attracted fair G outer inner p s (leb (G .inputs) r)
   attracted-stable e u =
       subst (λ (f : Bool). Attracted f G outer inner p s (leb (G .inputs) r)) (sym e)
       (record {
-        gains = λ h. (un, all-served u (leb-true (G .inputs) r h));
-        stays = λ h z. one-unserved u (not-inner outer inner p apart) (leb-false (G .inputs) r h);
+        gains = λ h. (un, all-served (not-outer outer inner p apart) u (leb-true (G .inputs) r h));
+        stays = λ h z. one-unserved (not-outer outer inner p apart) u (leb-false (G .inputs) r h);
       })

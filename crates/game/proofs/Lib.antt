@@ -8,6 +8,7 @@ pub mod SearchLaws
 pub mod AttractionLaws
 pub mod PassLaws
 pub mod PromotionLaws
+pub mod BeatenRounds
 pub mod RoundLaws
 pub mod LiftLaws
 pub mod HeightLaws

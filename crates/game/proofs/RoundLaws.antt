@@ -4,43 +4,52 @@ use mathlib.Core.Path.{_≡_, sym, subst}
 use mathlib.Core.Bool.{Bool, true, false, not}
 use mathlib.Core.List.{List}
 use mathlib.Core.Logic.{_⊎_, ⊎-elim}
-use Prim.Native.Nat.{ℕ, _+_, _<_, _≤_}
+use Prim.Native.Nat.{ℕ, _+_, _-_, _<_, _≤_}
 use native.Mathlib.Omega.{arith}
 use lib.ListN.{getD}
 use Rattle.game.specs.inner.Limits.{rankLimit}
 use Rattle.plays.specs.Arena.{Arena}
-use Rattle.plays.specs.inner.Rank.{Forces, Falls, Ranked, Ranking}
+use Rattle.plays.specs.inner.Rank.{Forces, Falls, Ranked}
+use Rattle.plays.specs.inner.Beaten.{Beaten, over}
 use Rattle.game.specs.inner.Game.{Valid}
-use Rattle.game.specs.inner.Solver.{rankedBelow, Unranked, Favorable, Grows, Attraction, Promoted}
+use Rattle.game.specs.inner.Solver.{rankedBelow, Unranked, Favorable, Grows, Attraction, Promoted, Found}
 use Rattle.plays.proofs.CaseLaws.{zero-or, below-or}
 use Rattle.game.proofs.LimitLaws.{ranked-below, below-none}
 use Rattle.game.proofs.ForcingLaws.{forces-map}
+use Rattle.game.proofs.BeatenRounds.{inner-beaten}
 
--- the outer ranks of the rounds so far, all below the limit
+-- the outer ranks of the rounds so far, all below the limit; when fair the system is beaten with every budget below the limit that is below a state's rank,
+-- and with every one where it has none
 pub record OuterRanks (fair : Bool) (G : Arena) (outer : List ℕ) (limit : ℕ) : Type 0 where
   pub within : (t : ℕ) → 0 < getD outer t 0 → t < G .states
   pub below : (t : ℕ) → getD outer t 0 < limit
   pub forced : (s : ℕ) → 0 < getD outer s 0 → Forces G fair s (Falls G fair true outer s)
+  pub beaten : fair ≡ true → (s k m : ℕ) → s < G .states → k < limit → (0 < getD outer s 0 → k < getD outer s 0) → Beaten true G m s k
 
 -- both players' ranks after the last round
 pub record Certified (fair : Bool) (G : Arena) (outer inner : List ℕ) : Type 0 where
-  pub outer-ranked : Ranked G fair true outer
-  pub inner-ranked : Ranked G (not fair) false inner
+  pub outer-ranked : Ranked G fair true (G .states) outer
+  pub inner-ranked : Ranked G (not fair) false (G .states) inner
   pub each : (s : ℕ) → s < G .states → ((0 < getD outer s 0) × (getD inner s 0 ≡ 0)) ⊎ ((getD outer s 0 ≡ 0) × (0 < getD inner s 0))
+  pub beaten : fair ≡ true → (s k m : ℕ) → s < G .states → k < getD outer s 0 → Beaten true G m s k
 
 -- the outer ranks are the system's when fair
-pub ranking-fair : {fair : Bool} {G : Arena} {outer inner : List ℕ} → fair ≡ true → Certified fair G outer inner → Ranking fair G outer inner
-ranking-fair {fair = true} e h = record { of-system = h .outer-ranked; of-environment = h .inner-ranked; each = h .each }
-ranking-fair {fair = false} e h = absurd (mathlib.Core.Bool.false≢true e)
+pub found-fair : {fair : Bool} {G : Arena} {outer inner : List ℕ} → fair ≡ true → Certified fair G outer inner → Found fair G outer inner
+found-fair {fair = true} e h =
+    record { ranking = record { of-system = h .outer-ranked; of-environment = h .inner-ranked; each = h .each }; beaten = h .beaten }
+found-fair {fair = false} e h = absurd (mathlib.Core.Bool.false≢true e)
 
 -- and the environment's when stable
-pub ranking-stable : {fair : Bool} {G : Arena} {outer inner : List ℕ} → fair ≡ false → Certified fair G outer inner → Ranking fair G inner outer
-ranking-stable {fair = true} e h = absurd (mathlib.Core.Bool.true≢false e)
-ranking-stable {fair = false} e h =
+pub found-stable : {fair : Bool} {G : Arena} {outer inner : List ℕ} → fair ≡ false → Certified fair G outer inner → Found fair G inner outer
+found-stable {fair = true} e h = absurd (mathlib.Core.Bool.true≢false e)
+found-stable {fair = false} e h =
     record {
-      of-system = h .inner-ranked;
-      of-environment = h .outer-ranked;
-      each = λ s l. ⊎-elim (λ w. _⊎_.inr (w .1, w .0)) (λ w. _⊎_.inl (w .1, w .0)) (h .each s l);
+      ranking = record {
+        of-system = h .inner-ranked;
+        of-environment = h .outer-ranked;
+        each = λ s l. ⊎-elim (λ w. _⊎_.inr (w .1, w .0)) (λ w. _⊎_.inl (w .1, w .0)) (h .each s l);
+      };
+      beaten = λ d. absurd (mathlib.Core.Bool.false≢true d);
     }
 
 -- before the first round
@@ -50,6 +59,7 @@ no-rounds outer z =
       within = λ t p. let e = z t in absurd (let q : ⊥ = omega arith in q);
       below = λ t. let e = z t in omega arith;
       forced = λ s p. let e = z s in absurd (let q : ⊥ = omega arith in q);
+      beaten = λ e s k m l lt h. over (let q : k ≡ 0 = omega arith in q);
     }
 
 module _ {fair : Bool} {G : Arena} (v : Valid G) {outer inner : List ℕ} {r : ℕ} (so-far : OuterRanks fair G outer r) (at : Attraction fair G outer inner) where
@@ -96,8 +106,17 @@ module _ {fair : Bool} {G : Arena} (v : Valid G) {outer inner : List ℕ} {r : �
         (λ x t tl d. let o = pro .extends t (d .0) in (omega (arith, d .0), (λ h. omega (arith, d .1 h)), (λ h. omega (arith, d .2 h))))
         (so-far .forced u w)
 
-    pub round-more : OuterRanks fair G new (r + 1)
-    round-more =
+    -- with the budget r the system is beaten where it gets no rank
+    rest-beaten : r ≤ G .states + 1 → fair ≡ true → (s m : ℕ) → s < G .states → (0 < getD new s 0 → r < getD new s 0) → Beaten true G m s r
+    rest-beaten le e s m l h =
+        inner-beaten v (λ t. omega (arith, so-far .below t, v .moving .states-fit)) (subst (λ (f : Bool). Attraction f G outer inner) e at)
+        (λ t tl z. so-far .beaten e t (r - 1) m tl (omega (arith, so-far .below t)) (λ p. absurd (let q : ⊥ = omega arith in q))) s l
+        (zero-or (getD inner s 0)
+        (λ f. absurd (let q : ⊥ = omega (arith, h (new-positive s l f), new-below s) in q))
+        (λ p. p))
+
+    pub round-more : r ≤ G .states + 1 → OuterRanks fair G new (r + 1)
+    round-more le =
         record {
           within = new-within;
           below = new-below;
@@ -105,6 +124,12 @@ module _ {fair : Bool} {G : Arena} (v : Valid G) {outer inner : List ℕ} {r : �
               zero-or (getD outer u 0)
               (λ e. new-forced u (new-within u p) (e, zero-or (getD inner u 0) (λ f. f) (λ w. omega (arith, pro .other u w))))
               (old-forced u);
+          beaten = λ e s k m l lt h.
+              below-or k r
+              (λ b. so-far .beaten e s k m l b (λ p. let q = pro .extends s p in omega (arith, h (omega arith))))
+              (λ b.
+              let is : k ≡ r = omega arith in
+              subst (λ (i : ℕ). Beaten true G m s i) (sym is) (rest-beaten le e s m l (λ p. omega (arith, h p))));
         }
 
     pub round-grows : gave ≡ true → Grows (G .states) outer new
@@ -114,7 +139,7 @@ module _ {fair : Bool} {G : Arena} (v : Valid G) {outer inner : List ℕ} {r : �
 
   -- after a round that gave no rank: each state has one of the two
   module _ (le : r ≤ G .states + 1) (total : (s : ℕ) → s < G .states → getD outer s 0 ≡ 0 → 0 < getD inner s 0) where
-    inner-ranked : Ranked G (not fair) false inner
+    inner-ranked : Ranked G (not fair) false (G .states) inner
     inner-ranked =
         record {
           within = at .ranks .within;
@@ -136,6 +161,7 @@ module _ {fair : Bool} {G : Arena} (v : Valid G) {outer inner : List ℕ} {r : �
           outer-ranked = record { within = so-far .within; bound = λ t. omega (arith, so-far .below t); forced = so-far .forced };
           inner-ranked = inner-ranked;
           each = λ s l. zero-or (getD outer s 0) (λ e. _⊎_.inr (e, total s l e)) (λ p. _⊎_.inl (p, at .ranks .apart s p));
+          beaten = λ e s k m l lt. so-far .beaten e s k m l (omega (arith, so-far .below s)) (λ p. lt);
         }
 
   pub rounds-end : {new : List ℕ} {gave : Bool} → Promoted (G .states) r outer inner new gave → gave ≡ false → r ≤ G .states + 1 → Certified fair G new inner

@@ -76,11 +76,11 @@ fn serves(
     s: usize,
     x: usize,
     y: usize,
-    judged: bool,
+    holds: bool,
 ) -> bool
     requires { ⌜ Valid (arenaOf g (now transitions) (now accepting)) ⌝ }
     requires { ⌜ (s < g .states) × (x < g .inputs) × (y < g .outputs) ⌝ }
-    requires { ⌜ judged ≡ bit (g .mask) x ⌝ }
+    requires { ⌜ holds ≡ bit (g .mask) x ⌝ }
     ensures { λ r. ⌜ r ≡ serving (arenaOf g (now (transitions .entry)) (now (accepting .entry)))
         (rankedBelow (limits .won) (now (won .entry))) (safeBelow (limits .inside) (limits .safe) (now (safe .entry))) s x y ⌝ }
 {
@@ -88,7 +88,7 @@ fn serves(
     if accepting[t] != 0 {
         return true;
     }
-    if judged {
+    if holds {
         return ranked_below(limits.won, won, t);
     }
     ranked_below(limits.safe, safe, t) == limits.inside
@@ -125,7 +125,7 @@ fn unserved(
     let mut x: usize = 0;
     'inputs: while x < inputs {
         let at = s * inputs + x;
-        let judged = has_condition(g.mask, x);
+        let holds = has_condition(g.mask, x);
         let mut y = wide(witness[at]);
         let mut tried: usize = 0;
         loop {
@@ -133,7 +133,7 @@ fn unserved(
                 break 'inputs;
             }
             y = wrapped(y, outputs);
-            if serves(g, transitions, accepting, won, safe, limits, s, x, y, judged) {
+            if serves(g, transitions, accepting, won, safe, limits, s, x, y, holds) {
                 break;
             }
             tried += 1;

@@ -13,7 +13,7 @@ use Rattle.game.specs.inner.Game.{arenaOf}
 use Rattle.game.specs.inner.Solver.{Attraction}
 use Rattle.game.proofs.CountLaws.{rankedCount, count-bound, count-more}
 use Rattle.game.proofs.LimitLaws.{zeros}
-use Rattle.game.proofs.RoundLaws.{OuterRanks, Certified, no-rounds, round-more, round-grows, rounds-end, ranking-fair, ranking-stable}
+use Rattle.game.proofs.RoundLaws.{OuterRanks, Certified, no-rounds, round-more, round-grows, rounds-end, found-fair, found-stable}
 use Rattle.game.proofs.solve.rounds.Statement.{statement}
 use Rattle.game.proofs.solve.rounds.Tie as tie
 
@@ -74,10 +74,10 @@ rounds-spec =
     let z = c .before .before .before .before .before .before .before .before .before .before .before .before .before in
     let l = c .before .before .before .before .before .before .before .loop in
     let p = c .before .before .before .before .promote in (
-      round-more (z .pre) (l .inv .0) (l .inv .1) (p .ensures .0),
+      round-more (z .pre) (l .inv .0) (l .inv .1) (p .ensures .0) (omega (arith, count-bound (l .outer) (z .args .g .states), l .inv .2)),
       c .inner-ranks2 .ensures,
       omega (arith, more (c .before .before .before), l .inv .2),
       p .ensures .1,
     ))
-    (λ c. ranking-fair (c .if2 .taken) (certified (c .before)))
-    (λ c. ranking-stable (c .if2 .left) (certified (c .before))))
+    (λ c. found-fair (c .if2 .taken) (certified (c .before)))
+    (λ c. found-stable (c .if2 .left) (certified (c .before))))

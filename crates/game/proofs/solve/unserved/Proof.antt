@@ -11,7 +11,7 @@ use borrow.Author.Count.{below-none, below-more}
 use denote.Ref.{now}
 use Rattle.automaton.specs.Limits.{numberLimit, stateLimit}
 use Rattle.game.specs.inner.Game.{arenaOf}
-use Rattle.game.specs.inner.Solver.{rankedBelow, serving}
+use Rattle.game.specs.inner.Solver.{rankedBelow, safeBelow, serving}
 use Rattle.game.specs.declared.arena.Game.{Game}
 use Rattle.game.specs.declared.solve.Limits.{Limits}
 use Rattle.game.proofs.IndexLaws.{pair-below}
@@ -21,22 +21,22 @@ use Rattle.game.proofs.solve.unserved.Tie as tie
 
 -- whether output y serves input x, by the arguments
 abbrev served : Game → List ℕ → List ℕ → List ℕ → List ℕ → Limits → ℕ → ℕ → ℕ → Bool
-served g transitions accepting won lost limits s x y =
-    serving (arenaOf g transitions accepting) (rankedBelow (limits .won) won) (rankedBelow (limits .lost) lost) s x y
+served g transitions accepting won safe limits s x y =
+    serving (arenaOf g transitions accepting) (rankedBelow (limits .won) won) (safeBelow (limits .inside) (limits .safe) safe) s x y
 
 abbrev Inv-loop : tie.InvT-loop
-Inv-loop g transitions accepting won lost limits s witness inputs outputs x at y₀ tried₀ y tried =
-    Tried (served g transitions accepting won lost limits s x) (g .outputs) tried y
+Inv-loop g transitions accepting won safe limits s witness inputs outputs x at holds y₀ tried₀ y tried =
+    Tried (served g transitions accepting won safe limits s x) (g .outputs) tried y
 
 abbrev μ-loop : tie.MeasureT-loop
-μ-loop g transitions accepting won lost limits s witness inputs outputs x at y₀ tried₀ y tried = g .outputs - tried
+μ-loop g transitions accepting won safe limits s witness inputs outputs x at holds y₀ tried₀ y tried = g .outputs - tried
 
 abbrev Inv-inputs : tie.InvT-inputs
-Inv-inputs g transitions accepting won lost limits s witness₀ inputs outputs x₀ witness x =
-    (x ≤ g .inputs) × ((k : ℕ) → k < x → (y : ℕ) × (y < g .outputs) × (served g transitions accepting won lost limits s k y ≡ true))
+Inv-inputs g transitions accepting won safe limits s witness₀ inputs outputs x₀ witness x =
+    (x ≤ g .inputs) × ((k : ℕ) → k < x → (y : ℕ) × (y < g .outputs) × (served g transitions accepting won safe limits s k y ≡ true))
 
 abbrev μ-inputs : tie.MeasureT-inputs
-μ-inputs g transitions accepting won lost limits s witness₀ inputs outputs x₀ witness x = g .inputs - x
+μ-inputs g transitions accepting won safe limits s witness₀ inputs outputs x₀ witness x = g .inputs - x
 
 -- the index of the witness
 index : (c : tie.In-inputs Inv-loop μ-loop Inv-inputs μ-inputs)
@@ -46,12 +46,16 @@ index c =
     let m = z .pre .0 .moving in
     pair-below (z .args .g .states) (z .args .g .inputs) (z .args .s) (c .before .inputs .x) (m .states-fit) (m .inputs-fit) (z .pre .1) (c .inputs-test .taken)
 
+-- the start of the call, from the place of a trial
+abbrev start-of : tie.After-wrapped Inv-loop μ-loop Inv-inputs μ-inputs → tie.Start Inv-loop μ-loop Inv-inputs μ-inputs
+start-of c = c .before .before .before .before .before .before .before .before .before .before
+
 -- the output that is tried next
 next : (c : tie.After-wrapped Inv-loop μ-loop Inv-inputs μ-inputs)
-    → let a = c .before .before .before .before .before .before .before .before .before .args in
-    let x = c .before .before .before .before .before .before .inputs .x in
+    → let a = start-of c .args in
+    let x = c .before .before .before .before .before .before .before .inputs .x in
     (c .wrapped .result < a .g .outputs)
-    × Tried (served (a .g) (now (a .transitions)) (now (a .accepting)) (now (a .won)) (now (a .lost)) (a .limits) (a .s) x) (a .g .outputs)
+    × Tried (served (a .g) (now (a .transitions)) (now (a .accepting)) (now (a .won)) (now (a .safe)) (a .limits) (a .s) x) (a .g .outputs)
     (c .before .before .loop .tried) (c .wrapped .result)
 next c =
     let l = c .before .before .loop in
@@ -69,35 +73,36 @@ unserved-spec =
     (λ c. (search needs, below-none _))
     (λ c. let i = index c in record { fits = omega arith })
     (λ c. omega (arith, index c))
-    (λ c. index c)
+    (λ c κs. omega (arith, c .before .before .before .before .pre .0 .moving .inputs-fit))
+    (λ c. index (c .before))
     (λ c κs. search needs)
     (λ c. tried-none _ _ _)
     (λ c κs. search needs)
     (λ c κs.
-    let z = c .before .before .before .before .before .before .before .before .before in
-    (z .pre .0, (z .pre .1, omega arith, next c .0)))
+    let z = start-of c in
+    (z .pre .0, ((z .pre .1, omega arith, next c .0), c .before .before .before .before .before .has-condition .ensures)))
     (λ c. let l = next (c .before .before) .1 .within in
-    omega (arith, c .before .before .before .before .before .before .before .before .before .before .before .pre .0 .moving .outputs-fit))
+    omega (arith, start-of (c .before .before) .pre .0 .moving .outputs-fit))
     (λ c. let l = next (c .before .before) .0 in
-    omega (arith, c .before .before .before .before .before .before .before .before .before .before .before .pre .0 .moving .outputs-fit))
+    omega (arith, start-of (c .before .before) .pre .0 .moving .outputs-fit))
     (λ c. let l = next (c .before .before) .1 .within in omega arith)
     (λ c.
     let n = next (c .before .before) in
     let l = n .1 .within in
     tried-more (n .1) (n .0) (omega arith) (sym (c .before .serves .ensures) ∙ c .if1 .left))
     (λ c. let l = next (c .before .before) .0 in
-    omega (arith, c .before .before .before .before .before .before .before .before .before .before .before .pre .0 .moving .outputs-fit))
-    (λ c. index (c .before .before .before .before .before .before .before))
-    (λ c. omega (arith, c .before .before .before .before .before .before .before .before .before .before .before .pre .0 .moving .inputs-fit))
+    omega (arith, start-of (c .before .before) .pre .0 .moving .outputs-fit))
+    (λ c. index (c .before .before .before .before .before .before .before .before))
+    (λ c. omega (arith, start-of (c .before .before) .pre .0 .moving .inputs-fit))
     (λ c. omega arith)
     (λ c. (
       omega arith,
-      below-more _ _ (c .before .before .before .before .before .before .before .before .inputs .inv .1)
+      below-more _ _ (c .before .before .before .before .before .before .before .before .before .inputs .inv .1)
           (_, next (c .before .before) .0, sym (c .before .serves .ensures) ∙ c .if1 .taken),
     ))
     (λ c.
     let i = c .before .inputs .inv in
     record { within = i .0; served = i .1; unserved = λ l. absurd (let z : ⊥ = omega arith in z) })
     (λ c.
-    let i = c .before .before .before .before .before .inputs .inv in
+    let i = c .before .before .before .before .before .before .inputs .inv in
     record { within = i .0; served = i .1; unserved = λ h. tried-all (c .before .loop .inv) (c .loop-test .taken) }))

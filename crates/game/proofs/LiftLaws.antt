@@ -11,7 +11,7 @@ use lib.ListN.{length, getD, set}
 use lib.Seq.{getD-set-same, getD-set-other}
 use borrow.Author.Tests.{eq-eqb, ne-eqb, lt-ltb, le-ltb}
 use Rattle.plays.specs.Arena.{Arena, next, goal, holds}
-use Rattle.plays.specs.inner.Rank.{Safe, Forces, Falls, Ranked}
+use Rattle.plays.specs.inner.Rank.{Safe, Falls}
 use Rattle.plays.specs.inner.Beaten.{left, Beaten, over, forced}
 use Rattle.game.specs.inner.Game.{Valid}
 use Rattle.game.specs.inner.Solver.{

@@ -1,33 +1,12 @@
 -- `game::solve::numbered` meets its contract: the three answers.
 -- Assumes nothing.
-use mathlib.Core.Path.{_≡_}
 use borrow.Author.Needs.{needs}
 use lib.ListN.{replicate}
-use denote.Ref.{now}
 use Rattle.automaton.specs.Limits.{stateLimit}
 use Rattle.game.proofs.LimitLaws.{zeros}
 use Rattle.game.proofs.NarrowLaws.{solves-fair, solves-cannot, asks-narrow, solves-stable}
 use Rattle.game.proofs.solve.numbered.Statement.{statement}
 use Rattle.game.proofs.solve.numbered.Tie as tie
-
-returns : tie.Need-returns
-returns c = let p = c .before .before .before .before .before .pre .1 in solves-fair (p .0) (p .1) (c .if1 .taken)
-
-returns-2 : tie.Need-returns-2
-returns-2 c =
-    let p = c .before .before .before .before .before .before .pre .1 in
-    solves-cannot (p .0) (p .1) (c .before .if1 .left) (replicate stateLimit 0) (zeros stateLimit) (c .if2 .taken)
-
-narrow-requires : tie.Need-narrow-requires
-narrow-requires c κs =
-    let p = c .before .before .before .before .before .before .before .before .pre in
-    let q = asks-narrow (p .1 .0) (p .1 .1) (c .before .before .before .if1 .left) (c .before .before .if2 .left) in
-    (p .0, ((p .1 .0, q .2), (q .0, q .1)))
-
-returns-3 : tie.Need-returns-3
-returns-3 c =
-    let p = c .before .before .before .before .before .before .before .before .before .before .pre .1 in
-    solves-stable (p .0) (p .1) (c .before .before .before .before .before .if1 .left) (c .before .narrow .ensures)
 
 pub numbered-spec : {M : Type 1} → statement M
 numbered-spec =
@@ -35,9 +14,16 @@ numbered-spec =
     (tie.spec
     (λ c. search needs)
     (λ c. search needs)
-    returns
+    (λ c. let p = c .before .before .before .before .before .pre .1 in solves-fair (p .0) (p .1) (c .if1 .taken))
     (λ c. search needs)
     (λ c. search needs)
-    returns-2
-    narrow-requires
-    returns-3)
+    (λ c.
+    let p = c .before .before .before .before .before .before .pre .1 in
+    solves-cannot (p .0) (p .1) (c .before .if1 .left) (replicate stateLimit 0) (zeros stateLimit) (c .if2 .taken))
+    (λ c κs.
+    let p = c .before .before .before .before .before .before .before .before .pre in
+    let q = asks-narrow (p .1 .0) (p .1 .1) (c .before .before .before .if1 .left) (c .before .before .if2 .left) in
+    (p .0, ((p .1 .0, q .2), (q .0, q .1))))
+    (λ c.
+    let p = c .before .before .before .before .before .before .before .before .before .before .pre .1 in
+    solves-stable (p .0) (p .1) (c .before .before .before .before .before .if1 .left) (c .before .narrow .ensures)))

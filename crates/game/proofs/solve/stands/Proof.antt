@@ -1,7 +1,6 @@
 -- `game::solve::stands` meets its contract: no need stands, one above the limit does not, and the first unserved input decides on the others.
 -- Assumes nothing.
 use mathlib.Core.Logic.{_⊎_}
-use Prim.Native.Nat.{_<_}
 use native.Mathlib.Omega.{arith}
 use borrow.Author.Needs.{needs}
 use borrow.Author.Tests.{leb-true, leb-false}

@@ -1,6 +1,6 @@
 -- `game::solve::sweep` meets its contract. The invariant: the sweep has been made over the states below s. The measure is the number of states left.
 -- Assumes nothing.
-use mathlib.Core.Path.{_≡_, sym, ap, _∙_, subst, subst₂}
+use mathlib.Core.Path.{_≡_, sym, _∙_, subst, subst₂}
 use mathlib.Core.Bool.{Bool, true}
 use mathlib.Core.List.{List}
 use mathlib.Core.Logic.{⊎-elim}
@@ -50,55 +50,22 @@ again c =
     (c .if1 .came) in
     (omega arith, here .0, here .1)
 
-loop-holds : tie.Need-loop-holds Inv-loop μ-loop
-loop-holds c = let z = c .before .before in (search needs, sweep-starts (z .pre .1 .0), z .pre .1 .1 .1)
-
-stands-requires : tie.Need-stands-requires Inv-loop μ-loop
-stands-requires c κs =
-    let z = c .before .before .before .before .before .before in
-    (z .pre .0, (c .before .before .loop-test .taken, z .pre .1 .1 .0))
-
-mul-raised : tie.Need-mul-raised Inv-loop μ-loop
-mul-raised c = omega (arith, c .before .before .before .before .before .before .before .before .pre .0 .moving .states-fit)
-
-element-copy-out-raised : tie.Need-element-copy-out-raised Inv-loop μ-loop
-element-copy-out-raised c = omega (arith, c .before .before .before .before .before .before .before .before .pre .0 .moving .states-fit)
-
-raised-requires : tie.Need-raised-requires Inv-loop μ-loop
-raised-requires c κs = c .before .before .before .before .before .before .before .before .before .pre .1 .1 .0
-
-mul-needs : tie.Need-mul-needs Inv-loop μ-loop
-mul-needs c = omega (arith, c .before .before .before .before .before .before .before .before .before .before .pre .0 .moving .states-fit)
-
-element-write-needs : tie.Need-element-write-needs Inv-loop μ-loop
-element-write-needs c = omega (arith, c .before .before .before .before .before .before .before .before .before .before .pre .0 .moving .states-fit)
-
-add-s : tie.Need-add-s Inv-loop μ-loop
-add-s c = omega (arith, c .before .before .before .before .before .before .before .before .pre .0 .moving .states-fit)
-
-loop-less : tie.Need-loop-less Inv-loop μ-loop
-loop-less c = omega arith
-
-loop-again : tie.Need-loop-again Inv-loop μ-loop
-loop-again c = again c
-
-returns : tie.Need-returns Inv-loop μ-loop
-returns c = let l = c .before .loop in (sweep-over (l .inv .1) (omega arith), l .inv .2)
-
 pub sweep-spec : {M : Type 1} → statement M
 sweep-spec =
     tie.close
     (tie.spec
     Inv-loop
     μ-loop
-    loop-holds
-    stands-requires
-    mul-raised
-    element-copy-out-raised
-    raised-requires
-    mul-needs
-    element-write-needs
-    add-s
-    loop-less
-    loop-again
-    returns)
+    (λ c. let z = c .before .before in (search needs, sweep-starts (z .pre .1 .0), z .pre .1 .1 .1))
+    (λ c κs.
+    let z = c .before .before .before .before .before .before in
+    (z .pre .0, (c .before .before .loop-test .taken, z .pre .1 .1 .0)))
+    (λ c. omega (arith, c .before .before .before .before .before .before .before .before .pre .0 .moving .states-fit))
+    (λ c. omega (arith, c .before .before .before .before .before .before .before .before .pre .0 .moving .states-fit))
+    (λ c κs. c .before .before .before .before .before .before .before .before .before .pre .1 .1 .0)
+    (λ c. omega (arith, c .before .before .before .before .before .before .before .before .before .before .pre .0 .moving .states-fit))
+    (λ c. omega (arith, c .before .before .before .before .before .before .before .before .before .before .pre .0 .moving .states-fit))
+    (λ c. omega (arith, c .before .before .before .before .before .before .before .before .pre .0 .moving .states-fit))
+    (λ c. omega arith)
+    again
+    (λ c. let l = c .before .loop in (sweep-over (l .inv .1) (omega arith), l .inv .2)))

@@ -1,6 +1,6 @@
 -- Laws of the sum of the needs' heights: at most n times the greatest, and larger where a need was lifted.
 -- Assumes nothing.
-use mathlib.Core.Path.{_≡_, subst}
+use mathlib.Core.Path.{subst}
 use mathlib.Core.List.{List}
 use Prim.Native.Nat.{ℕ, zero, suc, _+_, _*_, _<_, _≤_}
 use native.Mathlib.Nat.{suc-mul}

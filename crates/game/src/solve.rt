@@ -371,6 +371,7 @@ fn sweep(
 fn first_needs(system: &[Rank; STATE_LIMIT], n: usize) -> [Rank; STATE_LIMIT]
     requires { ⌜ n ≤ stateLimit ⌝ }
     ensures { λ r. ⌜ Marked n (now (system .entry)) r ⌝ }
+    ensures { λ r. ⌜ length r ≡ stateLimit ⌝ }
 {
     let mut needs: [Rank; STATE_LIMIT] = [0; STATE_LIMIT];
     let mut s: usize = 0;

@@ -120,13 +120,14 @@ module _ (G : Arena) (σ τ : List ℕ) where
         (environment-later mode G τ s (both-step s) (l .1) e v) in
         ((l .0, r .0), (l .1, r .1))
 
--- the environment's assumption is broken, or the system's is met
+-- an input has the condition or lacks it
 lacks-holds : (G : Arena) (x : ℕ) → lacks G x ≡ false → holds G x ≡ true
 lacks-holds G x e = on (holds G x) (λ t. t) (λ f. clash (lacks G x) (rw f) e)
 
 holds-lacks : (G : Arena) (x : ℕ) → holds G x ≡ false → lacks G x ≡ true
 holds-lacks G x e = rw e
 
+-- on a play of k times n steps the environment has failed its assumption, or the condition has come k times
 pub failed-or-assumed : (mode : Mode) (G : Arena) (k : ℕ) (p : List Step) → length p ≡ k * G .states → Failed mode G p ⊎ Assumed mode G k p
 failed-or-assumed Fair G k p l = row-or-many (lacks G) (holds G) (lacks-holds G) (G .states) k p l
 failed-or-assumed Stable G k p l =

@@ -5,3 +5,6 @@ pub mod RankLaws
 pub mod Determined
 pub mod EndlessLaws
 pub mod WayLaws
+pub mod BeatenLaws
+pub mod RoundLaws
+pub mod KeyLaws

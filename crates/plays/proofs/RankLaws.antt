@@ -41,7 +41,7 @@ module _ (G : Arena) (R : ℕ → Step → Type 0) (player steady : Bool) (r : L
   stays s (a ∷ p) w h e =
       stays (entered G s a) p (falls s a w (h .0) (first-avoids G s a p e) .0) (h .1) (others-avoid G s a p e)
 
-  -- steps all of which are judged take as much off the rank as they are many
+  -- steps all of which are judged take at least as much off the rank as they are many
   pub row-falls : (s : ℕ) (p : List Step) → 0 < getD r s 0 → Along G R s p → reaches G s p ≡ false → Every (judged G player) p
       → length p + getD r (standsOn G s p) 0 ≤ getD r s 0
   unfolding Along run Every
@@ -61,6 +61,7 @@ module _ (G : Arena) (R : ℕ → Step → Type 0) (player steady : Bool) (r : L
       let rest = count-falls t (entered G s a) p (d .0) (h .1) (others-avoid G s a p e) in
       ⊎-elim (λ j. rw j (omega (arith, rest, d .1 j))) (λ j. rw j (omega (arith, rest, d .2 t))) (decided (judged G player (a .input)))
 
+  -- no play that reaches no goal has n judged inputs in a row, where no rank is above n
   no-row : (n : ℕ) → ((t : ℕ) → getD r t 0 ≤ n) → (s : ℕ) (p : List Step) → 0 < getD r s 0 → Along G R s p → reaches G s p ≡ false
       → InRow (judged G player) n p → ⊥
   no-row n bound s p w h e v =
@@ -80,7 +81,7 @@ module _ (G : Arena) (R : ℕ → Step → Type 0) (player steady : Bool) (r : L
       (λ q. no-row n (bound .1 (q .0)) s p w h e (q .1))
       (often-cases steady (judged G player) n p o)
 
--- what makes the mode's claim on a play, as a count of judged inputs
+-- what a mode says of a play, the condition come n times and the assumption failed, in terms of judged inputs
 assumed-often : (fair : Bool) (G : Arena) (n : ℕ) (p : List Step) → Assumed (modeOf fair) G n p → Often fair (judged G true) n p
 assumed-often true G n p h = h
 assumed-often false G n p h = h

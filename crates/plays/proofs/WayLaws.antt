@@ -13,7 +13,7 @@ use Rattle.plays.specs.declared.mode.Mode.{Mode}
 use Rattle.plays.specs.declared.mode.Mode.the-variants.{Fair, Stable}
 use Rattle.plays.specs.Arena.{Arena, goal, holds}
 use Rattle.plays.specs.Play.{Step, entered, reaches, Along}
-use Rattle.plays.specs.Strategy.{systemByte, environmentByte, BySystem, ByEnvironment, SystemWins, EnvironmentWins}
+use Rattle.plays.specs.Strategy.{environmentByte, BySystem, ByEnvironment, SystemWins, EnvironmentWins}
 use Rattle.plays.specs.Way.{SystemWay, EnvironmentWay, Outputs, Inputs, bySystem, byEnvironment, ordered, meeting, systemAfter}
 use Rattle.plays.specs.Way.{environmentAfter, meet, ByWay}
 use Rattle.plays.specs.Endless.{first, inputs, Follows, Promised, Reaching, Kept, CanEndless, Defeated, CannotEndless}
@@ -106,7 +106,7 @@ module _ (G : Arena) where
                 (w .reaching (first f (j .0)) (along-first (BySystem G σ) s f (j .0) k (omega (arith, j .1)) h) m) (j .3);
           }
 
-      -- whatever the environment does, it is beaten where it keeps its promise
+      -- whatever the environment does, a beginning is done where it keeps its promise
       system-ways : (α : EnvironmentWay) → Inputs G α → Promised mode G (inputs (meet α (bySystem G σ s)))
           → Kept mode G n σ s Done (meet α (bySystem G σ s))
       system-ways α legal promised =

@@ -471,8 +471,8 @@ pub struct Solution {
     pub round: Rank,
 }
 
-// The round number of the start, and the ranks by which the system's table keeps it.
-fn numbered(
+// When stable: the needs with the least limit, and none where the environment wins the start.
+fn numbered_stable(
     g: Game,
     transitions: &[u8],
     accepting: &[u8],
@@ -483,20 +483,12 @@ fn numbered(
     requires { ⌜ Valid (arenaOf g (now transitions) (now accepting)) ⌝ }
     requires { ⌜ start < g .states ⌝ }
     requires { ⌜ Found (g .fair) (arenaOf g (now transitions) (now accepting)) (ranks .system) (ranks .environment) ⌝ }
+    requires { ⌜ g .fair ≡ false ⌝ }
     ensures { λ r. ⌜ Solves (g .fair) (arenaOf g (now (transitions .entry)) (now (accepting .entry))) start
         (r .near) (r .system) (r .environment) (r .round) ⌝ }
 {
     let system = ranks.system;
     let environment = ranks.environment;
-    if g.fair {
-        let round = system[start];
-        return Solution {
-            near: system,
-            system: system,
-            environment: environment,
-            round: round,
-        };
-    }
     if environment[start] != 0 {
         let none: [Rank; STATE_LIMIT] = [0; STATE_LIMIT];
         return Solution {
@@ -514,6 +506,35 @@ fn numbered(
         environment: environment,
         round: needs.limit,
     }
+}
+
+// The round number of the start, and the ranks by which the system's table keeps it. When fair both are the system's ranks.
+fn numbered(
+    g: Game,
+    transitions: &[u8],
+    accepting: &[u8],
+    start: usize,
+    ranks: Ranks,
+    witness: &mut [u8; STATE_LIMIT * NUMBER_LIMIT],
+) -> Solution
+    requires { ⌜ Valid (arenaOf g (now transitions) (now accepting)) ⌝ }
+    requires { ⌜ start < g .states ⌝ }
+    requires { ⌜ Found (g .fair) (arenaOf g (now transitions) (now accepting)) (ranks .system) (ranks .environment) ⌝ }
+    ensures { λ r. ⌜ Solves (g .fair) (arenaOf g (now (transitions .entry)) (now (accepting .entry))) start
+        (r .near) (r .system) (r .environment) (r .round) ⌝ }
+{
+    if g.fair {
+        let system = ranks.system;
+        let environment = ranks.environment;
+        let round = system[start];
+        return Solution {
+            near: system,
+            system: system,
+            environment: environment,
+            round: round,
+        };
+    }
+    numbered_stable(g, transitions, accepting, start, ranks, witness)
 }
 
 // Solves the game from the start. The witness of a state and an input is the output that served it last; at first, output 0.

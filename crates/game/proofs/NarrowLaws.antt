@@ -1,4 +1,4 @@
--- Laws of the limit that goes down: the needs to begin with, one limit less, the last limit, and the solver's three answers.
+-- Laws of the search for the least limit: the needs to begin with, a limit that is tried, the last one, and the solver's three answers.
 -- Assumes nothing.
 use mathlib.Core.Path.{_≡_, refl, sym, ap, _∙_, subst}
 use mathlib.Core.Bool.{Bool, true, false}
@@ -13,7 +13,7 @@ use Rattle.plays.specs.inner.Rank.{Ranked, Ranking}
 use Rattle.plays.specs.inner.Beaten.{Beaten, over}
 use Rattle.game.specs.inner.Solver.{Found, Marked, Bounds, Kept, Settled, UnrankedBeaten, Narrowed, Solves}
 use Rattle.plays.proofs.CaseLaws.{zero-or, same-or}
-use Rattle.plays.proofs.BeatenLaws.{beaten-less, beaten-limit, held-beaten}
+use Rattle.plays.proofs.BeatenLaws.{beaten-limit, held-beaten}
 
 -- ---- the needs to begin with
 
@@ -67,8 +67,8 @@ pub mark-over : {system needs : List ℕ} {k n : ℕ} → k ≡ n → Marked k s
 mark-over {system} {needs} e h = subst (λ (i : ℕ). Marked i system needs) e h
 
 -- with these needs the system is beaten as they say, whatever the limit
-pub marked-bounds : {G : Arena} {system needs : List ℕ} → Marked (G .states) system needs → UnrankedBeaten G system → (l : ℕ) → Bounds G l needs
-marked-bounds {G} {system} {needs} m lost l =
+pub marked-bounds : {G : Arena} {system needs : List ℕ} → Marked (G .states) system needs → UnrankedBeaten G system → (l : ℕ) → 0 < l → Bounds G l needs
+marked-bounds {G} {system} {needs} m lost l some =
     record {
       within = λ t p. m .won t p .0;
       small = λ t. omega (arith, m .small t);
@@ -78,81 +78,60 @@ marked-bounds {G} {system} {needs} m lost l =
           (λ p. over (omega (arith, m .small s, q (m .every s hs p))));
     }
 
--- ---- the limit goes down
+-- ---- the search for the least limit
 
--- the needs with the limit m so far: `best` stand with it, and `needs` are to be settled with the limit m - 1
-pub record Narrowing (G : Arena) (start : ℕ) (system best needs : List ℕ) (m : ℕ) : Type 0 where
-  pub positive : 0 < m
-  pub few : m ≤ G .states
-  pub ranked : Ranked G true false m best
+-- with the limit low the start has no need, with the limit high `best` gives it one
+pub record Between (G : Arena) (start : ℕ) (system best : List ℕ) (low high : ℕ) : Type 0 where
+  pub apart : low < high
+  pub few : high ≤ G .states
+  pub beaten : Beaten false G low start low
+  pub ranked : Ranked G true false high best
   pub won : Kept system best
   pub here : 0 < getD best start 0
-  pub bounds : Bounds G (m - 1) needs
-  pub needs-won : Kept system needs
 
--- the first limit is the number of states
-pub narrow-starts : {G : Arena} {start : ℕ} {system needs : List ℕ} → start < G .states → Ranked G true false (G .states) system → UnrankedBeaten G system
-    → 0 < getD system start 0 → Marked (G .states) system needs → Narrowing G start system system needs (G .states)
-narrow-starts {G} h ranked lost here m =
-    record {
-      positive = omega arith;
-      few = omega arith;
-      ranked = ranked;
-      won = λ t p. p;
-      here = here;
-      bounds = marked-bounds m lost (G .states - 1);
-      needs-won = λ t p. m .won t p .1;
-    }
+-- at first between none and the number of states
+pub search-starts : {G : Arena} {start : ℕ} {system : List ℕ} → start < G .states → Ranked G true false (G .states) system → 0 < getD system start 0
+    → Between G start system system 0 (G .states)
+search-starts {G} h ranked here =
+    record { apart = omega arith; few = omega arith; beaten = over refl; ranked = ranked; won = λ t p. p; here = here }
 
--- a limit less by one: a need is at most the limit it stands with, which is one more than the next
-bounds-less : {G : Arena} {l : ℕ} {needs : List ℕ} → 0 < l → Bounds G l needs → Ranked G true false l needs → Bounds G (l - 1) needs
-bounds-less {G} {l} pos b r =
-    record {
-      within = b .within;
-      small = λ t. omega (arith, r .bound t);
-      beaten = λ s k hs kl q. beaten-less false G l (l - 1) (omega arith) s k (b .beaten s k hs (omega arith) q) k (omega arith);
-    }
-
-module _ {G : Arena} {start : ℕ} {system best old needs : List ℕ} {m : ℕ} (so-far : Narrowing G start system best old m)
-    (settled : Settled G (m - 1) old needs) (more : 1 < m) where
-  -- the start kept a need
-  pub narrow-more : (getD needs start 0 ≡ 0 → ⊥) → Narrowing G start system needs needs (m - 1)
-  narrow-more h =
-      let f = so-far .few in
+-- one limit more was tried
+module _ {G : Arena} {start : ℕ} {system best needs : List ℕ} {low high l : ℕ} (so-far : Between G start system best low high)
+    (settled : Settled G start l system needs) (above : low < l) (below : l < high) where
+  pub search-higher : start < G .states → getD needs start 0 ≡ 0 → Between G start system best l high
+  search-higher hs e =
       record {
-        positive = omega arith;
-        few = omega arith;
-        ranked = settled .ranked;
-        won = λ t p. so-far .needs-won t (settled .kept t p);
-        here = omega arith;
-        bounds = bounds-less (omega arith) (settled .bounds) (settled .ranked);
-        needs-won = λ t p. so-far .needs-won t (settled .kept t p);
-      }
-
-  -- it lost it
-  pub narrow-ends : start < G .states → getD needs start 0 ≡ 0 → Narrowed G start system best m
-  narrow-ends hs e =
-      let b = settled .bounds .beaten start (m - 1) hs (omega arith) (λ p. absurd (let z : ⊥ = omega arith in z)) in
-      record {
-        positive = so-far .positive;
+        apart = below;
         few = so-far .few;
+        beaten = settled .bounds .beaten start l hs (omega arith) (λ p. absurd (let z : ⊥ = omega arith in z));
         ranked = so-far .ranked;
         won = so-far .won;
         here = so-far .here;
-        beaten = λ k h. beaten-limit false G (m - 1) start b k (omega arith);
       }
 
--- the limit is 1
-pub narrow-least : {G : Arena} {start : ℕ} {system best needs : List ℕ} {m : ℕ} → Narrowing G start system best needs m → m ≤ 1
-    → Narrowed G start system best m
-narrow-least so-far h =
+  pub search-lower : (getD needs start 0 ≡ 0 → ⊥) → Between G start system needs low l
+  search-lower d =
+      let p : 0 < getD needs start 0 = omega arith in
+      record {
+        apart = above;
+        few = omega (arith, so-far .few);
+        beaten = so-far .beaten;
+        ranked = settled .ranked p;
+        won = settled .won;
+        here = p;
+      }
+
+-- no limit is left between the two
+pub search-ends : {G : Arena} {start : ℕ} {system best : List ℕ} {low high : ℕ} → Between G start system best low high → high ≤ low + 1
+    → Narrowed G start system best high
+search-ends {G} {start} {low = low} s le =
     record {
-      positive = so-far .positive;
-      few = so-far .few;
-      ranked = so-far .ranked;
-      won = so-far .won;
-      here = so-far .here;
-      beaten = λ k l. let z : k ≡ 0 = omega arith in over z;
+      positive = omega (arith, s .apart);
+      few = s .few;
+      ranked = s .ranked;
+      won = s .won;
+      here = s .here;
+      beaten = λ k h. beaten-limit false G low start (s .beaten) k (omega arith);
     }
 
 -- ---- the solver's three answers

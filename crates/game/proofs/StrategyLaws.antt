@@ -35,10 +35,13 @@ row-div P s x h =
 row-mod : (P s x : ℕ) → x < P → (s * P + x) % P ≡ x
 row-mod P s x h = mul-add-mod-self-right s P x ∙ mod-eq-of-lt h
 
+-- a number is 0, or not
+zero-or-not : {C : Type 0} (n : ℕ) → (n ≡ 0 → C) → (0 < n → C) → C
+zero-or-not n f g = on (eqb n 0) (λ e. f (eqb-true n 0 e)) (λ e. g (nonzero n e))
+
 -- only states have a rank
 no-rank-beyond : {G : Arena} {player steady : Bool} {most : ℕ} (r : List ℕ) → Ranked G player steady most r → (s : ℕ) → G .states ≤ s → getD r s 0 ≡ 0
-no-rank-beyond r rk s h =
-    on (eqb (getD r s 0) 0) (eqb-true (getD r s 0) 0) (λ e. let l = rk .within s (nonzero (getD r s 0) e) in omega arith)
+no-rank-beyond r rk s h = zero-or-not (getD r s 0) (λ e. e) (λ p. let l = rk .within s p in omega arith)
 
 -- a table that goes by the near ranks on a state that has one, else by the far ones, wins wherever there is a far one; when fair they are the same
 two-ranks-win : (fair : Bool) (G : Arena) (σ near far : List ℕ) → Ranked G true fair (G .states) near → Ranked G true fair (G .states) far
@@ -72,17 +75,14 @@ module _ {fair : Bool} {G : Arena} (small : G .states ≤ stateLimit) {start r :
   -- where the system has no rank its byte is no output
   no-output-at : (s x : ℕ) → s < stateLimit → x < G .inputs → getD system s 0 ≡ 0 → systemByte G σ s x ≡ noMove
   no-output-at s x hs hx e =
-      system-at s x hs hx .by-far
-      (on (eqb (getD near s 0) 0) (eqb-true (getD near s 0) 0) (λ d. let w = found .near-won s (nonzero (getD near s 0) d) in omega arith)) .none e
+      system-at s x hs hx .by-far (zero-or-not (getD near s 0) (λ d. d) (λ p. let w = found .near-won s p in omega arith)) .none e
 
   system-state : (s : ℕ) → 0 < getD system s 0 → SystemState (modeOf fair) G σ τ s
   system-state s p =
       let l = found .ranking .of-system .within s p in
       record {
         wins = two-ranks-win fair G σ near system (found .near-ranked) (found .ranking .of-system) (found .near-fair) near-allowed far-allowed s p;
-        bytes = λ x h. on (eqb (getD near s 0) 0)
-            (λ e. far-allowed s (eqb-true (getD near s 0) 0 e) p x h .0)
-            (λ e. near-allowed s (nonzero (getD near s 0) e) x h .0);
+        bytes = λ x h. zero-or-not (getD near s 0) (λ e. far-allowed s e p x h .0) (λ q. near-allowed s q x h .0);
         other = ef .byte s (omega arith) .none (⊎-elim (λ w. w .1) (λ w. absurd (let z : ⊥ = omega (arith, w .0) in z)) (found .ranking .each s l));
       }
 
@@ -114,11 +114,11 @@ module _ {fair : Bool} {G : Arena} (small : G .states ≤ stateLimit) {start r :
 
   start-round : 0 < G .outputs → RoundNumber (modeOf fair) G (Reaching G start) r
   start-round some =
-      on (eqb r 0)
-      (λ e. let q = eqb-true r 0 e in
-      subst (λ (k : ℕ). RoundNumber (modeOf fair) G (Reaching G start) k) (sym q)
-      (no-round (modeOf fair) G τ start (environment-state start (found .cannot q) .wins)))
-      (λ e. let p = nonzero r e in round-number fair G σ start r p some (start-wins p) (found .beaten))
+      zero-or-not r
+      (λ e.
+      subst (λ (k : ℕ). RoundNumber (modeOf fair) G (Reaching G start) k) (sym e)
+      (no-round (modeOf fair) G τ start (environment-state start (found .cannot e) .wins)))
+      (λ p. round-number fair G σ start r p some (start-wins p) (found .beaten))
 
   filled-verdict : 0 < G .outputs → Verdict (modeOf fair) G σ τ start r
   filled-verdict some =

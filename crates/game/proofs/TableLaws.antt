@@ -14,20 +14,8 @@ use Rattle.automaton.specs.Limits.{stateLimit}
 use Rattle.plays.specs.Arena.{Arena, next, goal, holds, lacks}
 use Rattle.plays.specs.inner.Rank.{judged, Safe, Falls, Ranked, AllowedInput}
 use Rattle.game.specs.Tables.{noMove}
-use Rattle.game.specs.inner.Bytes.{
-  limitOf,
-  Below,
-  IsBelow,
-  GoodOutput,
-  SomeOutput,
-  EveryOutput,
-  Claim,
-  FirstStop,
-  IsSafe,
-  SystemByte,
-  MixedByte,
-  EnvironmentByte,
-}
+use Rattle.game.specs.inner.Bytes.{limitOf, Below, IsBelow, GoodOutput, SomeOutput, EveryOutput, Claim, FirstStop, IsSafe}
+use Rattle.game.specs.inner.Bytes.{SystemByte, MixedByte, EnvironmentByte}
 use Rattle.game.proofs.ForcingLaws.{safe-map}
 use Rattle.reader.proofs.BoolLaws.{on, clash}
 
@@ -122,8 +110,8 @@ limit-falls G player true r s x t p false e d = (d .0, (λ h. absurd (mathlib.Co
 limit-falls G player false r s x t p false e d = (d .0, (λ h. absurd (mathlib.Core.Bool.false≢true (e ∙ h))), (λ h. absurd (mathlib.Core.Bool.false≢true h)))
 
 -- The same on the state that a step enters, for either player, where `limit` is that of the input.
-module _ (G : Arena) (player steady : Bool) (small : G .states ≤ stateLimit) (r : List ℕ) (rk : Ranked G player steady (G .states) r) (s x : ℕ) (p : 0 < getD r s 0)
-    (b : Bool) (eb : b ≡ judged G player x) (limit : ℕ) (el : limit ≡ limitOf steady b (getD r s 0)) where
+module _ (G : Arena) (player steady : Bool) (small : G .states ≤ stateLimit) (r : List ℕ) (rk : Ranked G player steady (G .states) r)
+    (s x : ℕ) (p : 0 < getD r s 0) (b : Bool) (eb : b ≡ judged G player x) (limit : ℕ) (el : limit ≡ limitOf steady b (getD r s 0)) where
   pub safe-limit : (t : ℕ) → Safe G player t (Falls G player steady r s x t) → Safe G player t (Below r limit t)
   safe-limit t =
       safe-map G player t

@@ -1,7 +1,7 @@
 -- What two runs of a call that solves a game have in common. Two runs are two answers, each with the buffers that it left, for one input and the same
--- buffers before; proofs/OneAnswer.antt says that any two for which the call's promise holds agree so. Determined are the answer, n, the automaton, who
--- wins which state, and every byte of both tables that is not free. Free are the bytes of a state below n in the table of the player who wins it: there any
--- good byte may stand (specification, "Calls"). No promise of a call that the specification names rests on this file.
+-- buffers before; proofs/OneAnswer.antt says that any two for which the call's promise holds agree so. Determined are the answer with n and the round number,
+-- the automaton, who wins which state, and every byte of both tables that is not free. Free are the bytes of a state below n in the table of the player who
+-- wins it: there any good byte may stand (specification, "Calls"). No promise of a call that the specification names rests on this file.
 -- Assumes nothing.
 use Prim.Native.Nat.{ℕ, _/_, _<_}
 use mathlib.Core.Path.{_≡_}

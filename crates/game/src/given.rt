@@ -113,7 +113,7 @@ fn given_refusal(
     )
 }
 
-// Solves the game on a given automaton: refuses what is out of range, or fills both tables and says whether the system wins from the start.
+// Solves the game on a given automaton: refuses what is out of range, or fills both tables and gives the verdict on the start with its round number.
 pub fn solve_given(
     i: usize,
     o: usize,

@@ -120,7 +120,7 @@ fn check_rule(
     check_texts(i, o, rule, condition)
 }
 
-// Solves the game of a rule: refuses, or builds its automaton, fills both tables and says whether the system wins from the start.
+// Solves the game of a rule: refuses, or builds its automaton, fills both tables and gives the verdict on the start with its round number.
 pub fn solve_rule(
     i: usize,
     o: usize,

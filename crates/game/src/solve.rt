@@ -9,7 +9,7 @@ use automaton::limits::NUMBER_LIMIT;
 use automaton::limits::STATE_LIMIT;
 ghost use mathlib.Core.Path.{_≡_};
 ghost use mathlib.Core.Bool.{true, false};
-ghost use Prim.Native.Nat.{_<_, _≤_};
+ghost use Prim.Native.Nat.{_+_, _<_, _≤_};
 ghost use lib.ListN.{length, getD};
 ghost use Rattle.automaton.specs.Limits.{stateLimit};
 ghost use Rattle.automaton.specs.Bits.{bit};
@@ -27,11 +27,10 @@ ghost use Rattle.game.specs.inner.Solver.{
   Attraction,
   Promoted,
   Found,
-  Stands,
-  Yields,
-  raisedNeed,
   Marked,
   Bounds,
+  raisedNeed,
+  NextNeed,
   Swept,
   Settled,
   UnrankedBeaten,
@@ -293,38 +292,7 @@ fn rounds(
     }
 }
 
-// Whether the need of state s stands with the limit: it has none, or its need is at most the limit and every input has an output by which the needs fall.
-fn stands(
-    g: Game,
-    transitions: &[u8],
-    accepting: &[u8],
-    limit: Rank,
-    needs: &[Rank; STATE_LIMIT],
-    s: usize,
-    witness: &mut [u8; STATE_LIMIT * NUMBER_LIMIT],
-) -> bool
-    requires { ⌜ Valid (arenaOf g (now transitions) (now accepting)) ⌝ }
-    requires { ⌜ (s < g .states) × (limit ≤ stateLimit) ⌝ }
-    ensures { λ r. ⌜ (r ≡ true → Stands (arenaOf g (now (transitions .entry)) (now (accepting .entry))) limit (now (needs .entry)) s) ⌝ }
-    ensures { λ r. ⌜ (r ≡ false → Yields (arenaOf g (now (transitions .entry)) (now (accepting .entry))) limit (now (needs .entry)) s) ⌝ }
-{
-    let own = needs[s];
-    if own == 0 {
-        return true;
-    }
-    if limit < own {
-        return false;
-    }
-    let limits = Limits {
-        won: own,
-        safe: limit + 1,
-        inside: true,
-    };
-    let x = unserved(g, transitions, accepting, needs, needs, limits, s, witness);
-    g.inputs <= x
-}
-
-// The next need after one that does not stand, and none above the limit.
+// Raises a need by one, and drops it above the limit.
 fn raised(limit: Rank, need: Rank) -> Rank
     requires { ⌜ limit ≤ stateLimit ⌝ }
     ensures { λ r. ⌜ r ≡ raisedNeed limit need ⌝ }
@@ -335,7 +303,42 @@ fn raised(limit: Rank, need: Rank) -> Rank
     0
 }
 
-// Lifts the need of each state whose need does not stand, and says whether there was one.
+// The need of state s after a look at it: as it is, where every input has an output by which the needs fall; raised, where an input with the condition has
+// none; dropped, where an input without it has none, since no larger need would help there.
+fn next_need(
+    g: Game,
+    transitions: &[u8],
+    accepting: &[u8],
+    limit: Rank,
+    needs: &[Rank; STATE_LIMIT],
+    s: usize,
+    witness: &mut [u8; STATE_LIMIT * NUMBER_LIMIT],
+) -> Rank
+    requires { ⌜ Valid (arenaOf g (now transitions) (now accepting)) ⌝ }
+    requires { ⌜ Bounds (arenaOf g (now transitions) (now accepting)) limit (now needs) ⌝ }
+    requires { ⌜ (s < g .states) × (limit ≤ stateLimit) ⌝ }
+    ensures { λ r. ⌜ NextNeed (arenaOf g (now (transitions .entry)) (now (accepting .entry))) limit (now (needs .entry)) s r ⌝ }
+{
+    let own = needs[s];
+    if own == 0 {
+        return 0;
+    }
+    let limits = Limits {
+        won: own,
+        safe: limit + 1,
+        inside: true,
+    };
+    let x = unserved(g, transitions, accepting, needs, needs, limits, s, witness);
+    if g.inputs <= x {
+        return own;
+    }
+    if has_condition(g.mask, x) {
+        return raised(limit, own);
+    }
+    0
+}
+
+// Looks at each state once, and says whether a need changed.
 fn sweep(
     g: Game,
     transitions: &[u8],
@@ -354,8 +357,9 @@ fn sweep(
     let mut lifted = false;
     let mut s: usize = 0;
     while s < states {
-        if !stands(g, transitions, accepting, limit, needs, s, witness) {
-            needs[s] = raised(limit, needs[s]);
+        let need = next_need(g, transitions, accepting, limit, needs, s, witness);
+        if need != needs[s] {
+            needs[s] = need;
             lifted = true;
         }
         s += 1;
@@ -363,28 +367,11 @@ fn sweep(
     lifted
 }
 
-// Lifts the needs until each of them stands with the limit.
-fn settle(
-    g: Game,
-    transitions: &[u8],
-    accepting: &[u8],
-    limit: Rank,
-    needs: &mut [Rank; STATE_LIMIT],
-    witness: &mut [u8; STATE_LIMIT * NUMBER_LIMIT],
-)
-    requires { ⌜ Valid (arenaOf g (now transitions) (now accepting)) ⌝ }
-    requires { ⌜ Bounds (arenaOf g (now transitions) (now accepting)) limit (now needs) ⌝ }
-    requires { ⌜ (limit ≤ stateLimit) × (length (now needs) ≡ stateLimit) ⌝ }
-    ensures { λ r. ⌜ Settled (arenaOf g (now (transitions .entry)) (now (accepting .entry))) limit (now (needs .entry)) (now (needs .exit)) ⌝ }
-    ensures { λ r. ⌜ length (now (needs .exit)) ≡ stateLimit ⌝ }
-{
-    while sweep(g, transitions, accepting, limit, needs, witness) {}
-}
-
 // The needs to begin with: 1 for each of the n states that the system wins.
 fn first_needs(system: &[Rank; STATE_LIMIT], n: usize) -> [Rank; STATE_LIMIT]
     requires { ⌜ n ≤ stateLimit ⌝ }
     ensures { λ r. ⌜ Marked n (now (system .entry)) r ⌝ }
+    ensures { λ r. ⌜ length r ≡ stateLimit ⌝ }
 {
     let mut needs: [Rank; STATE_LIMIT] = [0; STATE_LIMIT];
     let mut s: usize = 0;
@@ -397,14 +384,51 @@ fn first_needs(system: &[Rank; STATE_LIMIT], n: usize) -> [Rank; STATE_LIMIT]
     needs
 }
 
+// The needs with a limit: lifted from the first ones until a sweep changes none, or the start has none.
+fn settled(
+    g: Game,
+    transitions: &[u8],
+    accepting: &[u8],
+    limit: Rank,
+    start: usize,
+    system: &[Rank; STATE_LIMIT],
+    witness: &mut [u8; STATE_LIMIT * NUMBER_LIMIT],
+) -> [Rank; STATE_LIMIT]
+    requires { ⌜ Valid (arenaOf g (now transitions) (now accepting)) ⌝ }
+    requires { ⌜ UnrankedBeaten (arenaOf g (now transitions) (now accepting)) (now system) ⌝ }
+    requires { ⌜ (0 < limit) × (limit ≤ stateLimit) × (start < g .states) ⌝ }
+    ensures { λ r. ⌜ Settled (arenaOf g (now (transitions .entry)) (now (accepting .entry))) start limit (now (system .entry)) r ⌝ }
+{
+    let mut needs: [Rank; STATE_LIMIT] = first_needs(system, g.states);
+    while needs[start] != 0 {
+        if !sweep(g, transitions, accepting, limit, &mut needs, witness) {
+            break;
+        }
+    }
+    needs
+}
+
+// A limit between two others: near the lower one at first, in the middle at last.
+fn between(low: Rank, high: Rank) -> Rank
+    requires { ⌜ (low + 1 < high) × (high ≤ stateLimit) ⌝ }
+    ensures { λ r. ⌜ (low < r) × (r < high) ⌝ }
+{
+    let near = low + low + 1;
+    let middle = (low + high) / 2;
+    if near < middle {
+        return near;
+    }
+    middle
+}
+
 // Needs and the limit with which they stand.
 pub struct Needs {
     pub ranks: [Rank; STATE_LIMIT],
     pub limit: Rank,
 }
 
-// The needs with the least limit with which the start keeps one. The limit goes down from n, where the system's ranks are such needs, and what was lifted
-// stays lifted.
+// The needs with the least limit with which the start has one, found between a limit with which it has none and one with which it has. With n it has one:
+// there the system's ranks are such needs.
 fn narrow(
     g: Game,
     transitions: &[u8],
@@ -414,25 +438,28 @@ fn narrow(
     witness: &mut [u8; STATE_LIMIT * NUMBER_LIMIT],
 ) -> Needs
     requires { ⌜ Valid (arenaOf g (now transitions) (now accepting)) ⌝ }
-    requires { ⌜ (start < g .states) × (0 < getD (now system) start 0) ⌝ }
+    requires { ⌜ start < g .states ⌝ }
     requires { ⌜ Ranked (arenaOf g (now transitions) (now accepting)) true false (g .states) (now system) ⌝ }
     requires { ⌜ UnrankedBeaten (arenaOf g (now transitions) (now accepting)) (now system) ⌝ }
+    requires { ⌜ 0 < getD (now system) start 0 ⌝ }
     ensures { λ r. ⌜ Narrowed (arenaOf g (now (transitions .entry)) (now (accepting .entry))) start (now (system .entry)) (r .ranks) (r .limit) ⌝ }
 {
     let mut best: [Rank; STATE_LIMIT] = *system;
-    let mut needs: [Rank; STATE_LIMIT] = first_needs(system, g.states);
-    let mut m: Rank = g.states as Rank;
-    while 1 < m {
-        settle(g, transitions, accepting, m - 1, &mut needs, witness);
+    let mut low: Rank = 0;
+    let mut high: Rank = g.states as Rank;
+    while low + 1 < high {
+        let limit = between(low, high);
+        let needs = settled(g, transitions, accepting, limit, start, system, witness);
         if needs[start] == 0 {
-            break;
+            low = limit;
+        } else {
+            best = needs;
+            high = limit;
         }
-        best = needs;
-        m -= 1;
     }
     Needs {
         ranks: best,
-        limit: m,
+        limit: high,
     }
 }
 
@@ -444,8 +471,8 @@ pub struct Solution {
     pub round: Rank,
 }
 
-// The round number of the start, and the ranks by which the system's table keeps it.
-fn numbered(
+// When stable: the needs with the least limit, and none where the environment wins the start.
+fn numbered_stable(
     g: Game,
     transitions: &[u8],
     accepting: &[u8],
@@ -456,20 +483,12 @@ fn numbered(
     requires { ⌜ Valid (arenaOf g (now transitions) (now accepting)) ⌝ }
     requires { ⌜ start < g .states ⌝ }
     requires { ⌜ Found (g .fair) (arenaOf g (now transitions) (now accepting)) (ranks .system) (ranks .environment) ⌝ }
+    requires { ⌜ g .fair ≡ false ⌝ }
     ensures { λ r. ⌜ Solves (g .fair) (arenaOf g (now (transitions .entry)) (now (accepting .entry))) start
         (r .near) (r .system) (r .environment) (r .round) ⌝ }
 {
     let system = ranks.system;
     let environment = ranks.environment;
-    if g.fair {
-        let round = system[start];
-        return Solution {
-            near: system,
-            system: system,
-            environment: environment,
-            round: round,
-        };
-    }
     if environment[start] != 0 {
         let none: [Rank; STATE_LIMIT] = [0; STATE_LIMIT];
         return Solution {
@@ -487,6 +506,35 @@ fn numbered(
         environment: environment,
         round: needs.limit,
     }
+}
+
+// The round number of the start, and the ranks by which the system's table keeps it. When fair both are the system's ranks.
+fn numbered(
+    g: Game,
+    transitions: &[u8],
+    accepting: &[u8],
+    start: usize,
+    ranks: Ranks,
+    witness: &mut [u8; STATE_LIMIT * NUMBER_LIMIT],
+) -> Solution
+    requires { ⌜ Valid (arenaOf g (now transitions) (now accepting)) ⌝ }
+    requires { ⌜ start < g .states ⌝ }
+    requires { ⌜ Found (g .fair) (arenaOf g (now transitions) (now accepting)) (ranks .system) (ranks .environment) ⌝ }
+    ensures { λ r. ⌜ Solves (g .fair) (arenaOf g (now (transitions .entry)) (now (accepting .entry))) start
+        (r .near) (r .system) (r .environment) (r .round) ⌝ }
+{
+    if g.fair {
+        let system = ranks.system;
+        let environment = ranks.environment;
+        let round = system[start];
+        return Solution {
+            near: system,
+            system: system,
+            environment: environment,
+            round: round,
+        };
+    }
+    numbered_stable(g, transitions, accepting, start, ranks, witness)
 }
 
 // Solves the game from the start. The witness of a state and an input is the output that served it last; at first, output 0.

@@ -1,10 +1,9 @@
 // The two tables: for each state that a player wins, the lowest output or input that its ranks allow.
 ghost use mathlib.Core.Path.{_≡_};
-ghost use mathlib.Core.Bool.{Bool, true, false, not};
-ghost use Prim.Native.Nat.{ℕ, _*_, _<_, _≤_};
+ghost use mathlib.Core.Bool.{true, false, not};
+ghost use Prim.Native.Nat.{_*_, _<_, _≤_};
 ghost use lib.ListN.{length, getD};
 ghost use Rattle.automaton.specs.Limits.{stateLimit};
-ghost use Rattle.plays.specs.Arena.{Arena};
 ghost use Rattle.plays.specs.inner.Rank.{modeOf, Ranked, Ranking};
 ghost use Rattle.game.specs.inner.Game.{arenaOf, Valid};
 ghost use Rattle.game.specs.Tables.{Tables, Verdict};

@@ -102,7 +102,7 @@ pub record Found (fair : Bool) (G : Arena) (system environment : List ℕ) : Typ
   pub ranking : Ranking fair G system environment
   pub beaten : fair ≡ true → (s k m : ℕ) → s < G .states → k < getD system s 0 → Beaten true G m s k
 
--- ---- needs: the system's ranks when stable with a limit on steps in a row, lifted from 1 until they fit, where a rank above the limit is dropped to 0
+-- ---- needs: the system's ranks when stable with a limit l on steps in a row, lifted from 1 until they stand; one above the limit is dropped, to 0
 
 -- the needs to begin with: 1 for each state below n that has a rank
 pub record Marked (n : ℕ) (system needs : List ℕ) : Type 0 where
@@ -113,25 +113,16 @@ pub record Marked (n : ℕ) (system needs : List ℕ) : Type 0 where
 -- the needs so far, with the limit l: the system is beaten with every budget up to l that is below a state's need, and with every one where it has none
 pub record Bounds (G : Arena) (l : ℕ) (needs : List ℕ) : Type 0 where
   pub within : (t : ℕ) → 0 < getD needs t 0 → t < G .states
-  pub small : (t : ℕ) → getD needs t 0 ≤ l + 1
+  pub small : (t : ℕ) → getD needs t 0 ≤ l
   pub beaten : (s k : ℕ) → s < G .states → k ≤ l → (0 < getD needs s 0 → k < getD needs s 0) → Beaten false G l s k
 
 -- every state with a need in new has one in old
 abbrev pub Kept : (old new : List ℕ) → Type 0
 Kept old new = (t : ℕ) → 0 < getD new t 0 → 0 < getD old t 0
 
--- the need of state s stands with the limit l: it has none, or its need is at most l and every input has an output by which the needs fall
-abbrev pub Stands : (G : Arena) (l : ℕ) (needs : List ℕ) (s : State) → Type 0
-Stands G l needs s = 0 < getD needs s 0 → (getD needs s 0 ≤ l) × Forces G true s (Falls G true false needs s)
-
--- the need of state s does not stand: it is above l, or the environment has an input after which no output enters a goal, a state of a lower need (where it
--- has the condition) or a state of a need up to l (where it lacks it)
-abbrev pub Yields : (G : Arena) (l : ℕ) (needs : List ℕ) (s : State) → Type 0
-Yields G l needs s =
-    (0 < getD needs s 0)
-    × ((l < getD needs s 0)
-    ⊎ ((x : Input) × (x < G .inputs) × ((y : Output) → y < G .outputs
-    → (goal G (next G s x y) ≡ false) × (rankedBelow (cond (holds G x) (getD needs s 0) (l + 1)) needs (next G s x y) ≡ false))))
+-- the need of state s stands: it has none, or every input has an output by which the needs fall
+abbrev pub Stands : (G : Arena) (needs : List ℕ) (s : State) → Type 0
+Stands G needs s = 0 < getD needs s 0 → Forces G true s (Falls G true false needs s)
 
 -- the next need after k, and none above the limit
 abbrev pub raisedNeed : (l k : ℕ) → ℕ
@@ -139,7 +130,19 @@ raisedNeed l k = cond (ltb k l) (k + 1) 0
 
 -- how high need k is among those that the limit l allows: none is the highest
 abbrev pub heightOf : (l k : ℕ) → ℕ
-heightOf l k = cond (eqb k 0) (l + 2) k
+heightOf l k = cond (eqb k 0) (l + 1) k
+
+-- v is a higher need of state s, or none, and the system is beaten as it says
+pub record Higher (G : Arena) (l : ℕ) (needs : List ℕ) (s v : ℕ) : Type 0 where
+  pub some : 0 < getD needs s 0
+  pub small : v ≤ l
+  pub higher : heightOf l (getD needs s 0) < heightOf l v
+  pub beaten : (k : ℕ) → k ≤ l → (0 < v → k < v) → Beaten false G l s k
+
+-- v is what a look at state s makes of its need: the same where it stands, and a higher one, or none, where it does not
+pub record NextNeed (G : Arena) (l : ℕ) (needs : List ℕ) (s v : ℕ) : Type 0 where
+  pub stands : v ≡ getD needs s 0 → Stands G needs s
+  pub lifts : (v ≡ getD needs s 0 → ⊥) → Higher G l needs s v
 
 -- a sweep over the first k states, from the needs old; lifted says whether it lifted any
 pub record Swept (G : Arena) (l : ℕ) (old needs : List ℕ) (k : ℕ) (lifted : Bool) : Type 0 where
@@ -147,13 +150,13 @@ pub record Swept (G : Arena) (l : ℕ) (old needs : List ℕ) (k : ℕ) (lifted 
   pub kept : Kept old needs
   pub rises : (t : ℕ) → heightOf l (getD old t 0) ≤ heightOf l (getD needs t 0)
   pub more : lifted ≡ true → (s : ℕ) × (s < k) × (heightOf l (getD old s 0) < heightOf l (getD needs s 0))
-  pub stand : lifted ≡ false → (s : ℕ) → s < k → Stands G l needs s
+  pub stand : lifted ≡ false → (s : ℕ) → s < k → Stands G needs s
 
--- the needs with the limit l after the last sweep, from the needs old
-pub record Settled (G : Arena) (l : ℕ) (old needs : List ℕ) : Type 0 where
+-- the needs with the limit l after the last sweep: they stand, unless the start has none
+pub record Settled (G : Arena) (start : State) (l : ℕ) (system needs : List ℕ) : Type 0 where
   pub bounds : Bounds G l needs
-  pub kept : Kept old needs
-  pub ranked : Ranked G true false l needs
+  pub won : Kept system needs
+  pub ranked : 0 < getD needs start 0 → Ranked G true false l needs
 
 -- the system is beaten on every state without a rank, whatever the limit and the budget
 abbrev pub UnrankedBeaten : (G : Arena) (system : List ℕ) → Type 0

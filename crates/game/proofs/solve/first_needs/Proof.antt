@@ -52,4 +52,4 @@ first-needs-spec =
     (λ c. omega arith)
     (λ c. omega arith)
     again
-    (λ c. let l = c .before .loop in mark-over (omega arith) (l .inv .1)))
+    (λ c. let l = c .before .loop in (mark-over (omega arith) (l .inv .1), l .inv .2)))

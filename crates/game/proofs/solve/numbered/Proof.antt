@@ -1,0 +1,16 @@
+-- `game::solve::numbered` meets its contract: fair, the start's rank; stable, the answer of `numbered_stable`.
+-- Assumes nothing.
+use borrow.Author.Needs.{needs}
+use Rattle.game.proofs.NarrowLaws.{solves-fair}
+use Rattle.game.proofs.solve.numbered.Statement.{statement}
+use Rattle.game.proofs.solve.numbered.Tie as tie
+
+pub numbered-spec : {M : Type 1} → statement M
+numbered-spec =
+    tie.close
+    (tie.spec
+    (λ c. search needs)
+    (λ c. search needs)
+    (λ c. let p = c .before .before .before .before .before .pre .1 in solves-fair (p .0) (p .1) (c .before .before .if1 .taken))
+    (λ c κs. let p = c .before .before .before .before .pre in (p .0, (p .1 .0, (p .1 .1, c .before .if1 .left))))
+    (λ c. c .numbered-stable .ensures))

@@ -88,8 +88,7 @@ module _ {G : Arena} (v : Valid G) {l : ℕ} {needs : List ℕ} {s r : ℕ} (b :
       record {
         stands = λ _ _ x h.
             let w = served-at u all x h in
-            let t = next G s x (w .0) in
-            (
+            let t = next G s x (w .0) in (
               w .0,
               w .1,
               ⊎-elim

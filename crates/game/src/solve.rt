@@ -438,10 +438,9 @@ fn narrow(
     witness: &mut [u8; STATE_LIMIT * NUMBER_LIMIT],
 ) -> Needs
     requires { ⌜ Valid (arenaOf g (now transitions) (now accepting)) ⌝ }
-    requires { ⌜ start < g .states ⌝ }
+    requires { ⌜ (start < g .states) × (0 < getD (now system) start 0) ⌝ }
     requires { ⌜ Ranked (arenaOf g (now transitions) (now accepting)) true false (g .states) (now system) ⌝ }
     requires { ⌜ UnrankedBeaten (arenaOf g (now transitions) (now accepting)) (now system) ⌝ }
-    requires { ⌜ 0 < getD (now system) start 0 ⌝ }
     ensures { λ r. ⌜ Narrowed (arenaOf g (now (transitions .entry)) (now (accepting .entry))) start (now (system .entry)) (r .ranks) (r .limit) ⌝ }
 {
     let mut best: [Rank; STATE_LIMIT] = *system;

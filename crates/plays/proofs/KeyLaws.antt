@@ -148,15 +148,14 @@ module _ (G : Arena) (key : ℕ → ℕ) (within : (t : ℕ) → 0 < key t → t
       omega (arith, ranks-at s (within s w), ranks-at t (within t v), rank-lower key (G .states) s t (within s w) l)
 
   lowers-allowed : (s x y : ℕ) → 0 < key s → y < G .outputs → Lowers G key s x (next G s x y) → AllowedOutput false G ranks s x y
-  lowers-allowed s x y w l d =
-      (
-        l,
-        ⊎-elim
+  lowers-allowed s x y w l d = (
+    l,
+    ⊎-elim
         (λ g. _⊎_.inl g)
         (λ v. _⊎_.inr
         (ranks-some (next G s x y) (v .0), (λ h. ranks-lower s (next G s x y) w (v .0) (v .1 h)), (λ e. absurd (mathlib.Core.Bool.false≢true e))))
         d,
-      )
+  )
 
   keyed-wins : (σ : List ℕ)
       → ((s : ℕ) → 0 < key s → (x : ℕ) → x < G .inputs → (systemByte G σ s x < G .outputs) × Lowers G key s x (next G s x (systemByte G σ s x)))

@@ -92,8 +92,7 @@ spending fair G m s k (over e) ω legal = ([], tt, refl, spent-none fair G m k e
 spending fair G m s k (forced x input undone rest) ω legal =
     let y : ℕ = ω [] x in
     let a : Step = record { input = x; output = y } in
-    let r = spending fair G m (next G s x y) (left fair m (holds G x) k) (rest y (legal [] x)) (systemAfter a ω) (λ past. legal (a ∷ past)) in
-    (
+    let r = spending fair G m (next G s x y) (left fair m (holds G x) k) (rest y (legal [] x)) (systemAfter a ω) (λ past. legal (a ∷ past)) in (
       a ∷ r .0,
       ((input, legal [] x), refl, r .1),
       reaches-later G s a (r .0) (undone y (legal [] x)) ∙ r .2,

@@ -1,53 +1,54 @@
+-- `game::solve::next_need` meets its contract: the first unserved input decides, if there is one, and whether it has the condition.
+-- Assumes nothing.
+use mathlib.Core.Path.{_≡_, sym, _∙_, subst}
+use Prim.Native.Nat.{ℕ, _<_}
+use native.Mathlib.Omega.{arith}
 use borrow.Author.Needs.{needs}
+use lib.ListN.{getD}
+use denote.Ref.{now}
+use Rattle.plays.specs.Arena.{Arena, holds}
+use Rattle.game.specs.inner.Game.{arenaOf}
+use Rattle.game.specs.inner.Solver.{NextNeed}
+use Rattle.reader.proofs.BoolLaws.{positive}
+use Rattle.game.proofs.LiftLaws.{look-none, look-stands, look-raises, look-drops}
 use Rattle.game.proofs.solve.next_need.Statement.{statement}
 use Rattle.game.proofs.solve.next_need.Tie as tie
-use Rattle.game.proofs.solve.next_need.Reads as reads
-use Rattle.game.proofs.solve.next_need.Lts as lts
-use Rattle.game.proofs.arena.has_condition.Reads as has-condition-reads
-use Rattle.game.proofs.solve.raised.Reads as raised-reads
-use Rattle.game.proofs.solve.unserved.Reads as unserved-reads
 
-mul-own : tie.Need-mul-own
-mul-own c = search needs
+abbrev begin : tie.After-unserved → tie.Start
+begin c = c .before .before .before .before .before .before
 
-element-copy-out-own : tie.Need-element-copy-out-own
-element-copy-out-own c = search needs
+some : (c : tie.After-unserved) → 0 < getD (now (begin c .args .needs)) (begin c .args .s) 0
+some c = let a = begin c .args in positive (getD (now (a .needs)) (a .s) 0) (c .before .before .if1 .left)
 
-returns : tie.Need-returns
-returns c = ?
-
-add-t14 : tie.Need-add-t14
-add-t14 c = search needs
-
-unserved-requires : tie.Need-unserved-requires
-unserved-requires c κs = search needs
-
-returns-2 : tie.Need-returns-2
-returns-2 c = ?
-
-has-condition-requires : tie.Need-has-condition-requires
-has-condition-requires c κs = search needs
-
-raised-requires : tie.Need-raised-requires
-raised-requires c κs = search needs
-
-returns-3 : tie.Need-returns-3
-returns-3 c = ?
-
-returns-4 : tie.Need-returns-4
-returns-4 c = ?
+abbrev looked : tie.After-has-condition → tie.After-unserved
+looked c = c .before .before .before
 
 pub next-need-spec : {M : Type 1} → statement M
+unfolding holds
 next-need-spec =
     tie.close
     (tie.spec
-    mul-own
-    element-copy-out-own
-    returns
-    add-t14
-    unserved-requires
-    returns-2
-    has-condition-requires
-    raised-requires
-    returns-3
-    returns-4)
+    (λ c. search needs)
+    (λ c. search needs)
+    (λ c. look-none (c .if1 .taken))
+    (λ c. search needs)
+    (λ c κs. search needs)
+    (λ c.
+    let u = c .before .before in
+    let p = begin u .pre in
+    look-stands (p .0) (p .1 .0) (p .1 .1 .0) (some u) (u .unserved .ensures) (c .if2 .taken))
+    (λ c κs. search needs)
+    (λ c κs. search needs)
+    (λ c.
+    let d = c .before in
+    let h = d .before in
+    let u = looked h in
+    let p = begin u .pre in
+    let a = begin u .args in
+    subst (λ (v : ℕ). NextNeed (arenaOf (a .g) (now (a .transitions)) (now (a .accepting))) (a .limit) (now (a .needs)) (a .s) v) (sym (c .raised .ensures))
+    (look-raises (p .0) (p .1 .0) (p .1 .1 .0) (some u) (u .unserved .ensures) (h .before .if2 .left) (sym (h .has-condition .ensures) ∙ d .if3 .taken)))
+    (λ c.
+    let h = c .before in
+    let u = looked h in
+    let p = begin u .pre in
+    look-drops (p .0) (p .1 .0) (p .1 .1 .0) (some u) (u .unserved .ensures) (h .before .if2 .left) (sym (h .has-condition .ensures) ∙ c .if3 .left)))

@@ -86,7 +86,7 @@ fn once(mut edges: Vec<Edge>) -> Vec<Edge> {
 /// Checks the round number: the table keeps it from the start, and it is 0 where the outside wins the start.
 fn keeps_round(game: &Game, edges: &[Edge], start: usize, round: usize, wins: bool) -> Result<(), String> {
     if wins != (round > 0) {
-        return Err(format!("the round number is {round}, and the start has the winner {}", if wins { 'S' } else { 'O' }));
+        return Err(format!("the round number is {round}, and that the station wins the start is {wins}"));
     }
     let edges = edges_from(game.n, edges, start);
     let most = match game.mode {

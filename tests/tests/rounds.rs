@@ -11,7 +11,12 @@ use solver::tables::build;
 use solver::Mode::{self, *};
 
 /// A game whose moves are a law from state, input and output. Input 0 alone has the condition.
-fn game(mode: Mode, (i, o, n): (usize, usize, usize), goals: &[usize], law: impl Fn(usize, usize, usize) -> usize) -> Game {
+fn game(
+    mode: Mode,
+    (i, o, n): (usize, usize, usize),
+    goals: &[usize],
+    law: impl Fn(usize, usize, usize) -> usize,
+) -> Game {
     let letters = 1 << (i + o);
     let moves = (0..n * letters).map(|k| law(k / letters, k % letters % (1 << i), k % letters >> i)).collect();
     Game { i, o, n, moves, goals: (0..n).map(|s| goals.contains(&s)).collect(), mask: 1, mode }
@@ -156,7 +161,8 @@ fn all_games_of_two_states_by_plays() {
         let bit = |k: usize| case >> k & 1;
         let mode = if bit(13) == 0 { Fair } else { Stable };
         let goals = vec![bit(8) == 1, bit(9) == 1];
-        let game = Game { i: 1, o: 1, n: 2, moves: (0..8).map(bit).collect(), goals, mask: (case >> 10 & 3) as u16, mode };
+        let game =
+            Game { i: 1, o: 1, n: 2, moves: (0..8).map(bit).collect(), goals, mask: (case >> 10 & 3) as u16, mode };
         let wanted = round_number(&game, &winners(&game), bit(12));
         assert_eq!(by_plays(&game, bit(12)), wanted, "{game:?}");
         counts[wanted] += 1;

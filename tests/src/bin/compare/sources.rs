@@ -54,7 +54,9 @@ fn stated(
     case.mode = mode;
     let verdict = case.compare(1, tally).map_err(|what| case.print(what))?;
     match (wanted, verdict) {
-        (Some((can, n, round)), Some(told)) if (told.can, told.n) == (can, n) && round.is_none_or(|r| told.round == r) => {
+        (Some((can, n, round)), Some(told))
+            if (told.can, told.n) == (can, n) && round.is_none_or(|r| told.round == r) =>
+        {
             Ok(verdict)
         }
         (None, _) => Ok(verdict),

@@ -80,14 +80,15 @@ impl Tally {
             return self.count(format!("{call}: cannot"));
         }
         let mode = if game.mode == Mode::Fair { "fair" } else { "stable" };
+        let mixed = is_mixed(game, wins, round);
         self.count(format!("{call}: can"));
         let kinds = [
             ("above 1", round > 1),
             ("above 1 and below n", round > 1 && round < n),
             ("above 10", round > 10),
             ("n, above 1", round == n && n > 1),
-            ("for a table by two numbers", is_mixed(game, wins, round)),
-            ("above 1 for a table by two numbers", round > 1 && is_mixed(game, wins, round)),
+            ("for a table by two numbers", mixed),
+            ("above 1 for a table by two numbers", mixed && round > 1),
         ];
         for (kind, _) in kinds.iter().filter(|(_, holds)| *holds) {
             self.count(format!("{call}: can, {mode}, round number {kind}"));

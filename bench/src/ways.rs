@@ -31,8 +31,8 @@ fn given(
     goal: usize,
     law: impl Fn(usize, usize, usize) -> usize,
 ) -> Given {
-    let letters = 1usize << (i + o);
-    let moves = (0..n * letters).map(|k| law(k / letters, k % letters % (1 << i), k % letters >> i) as u8).collect();
+    let (inputs, letters) = (1usize << i, 1 << (i + o));
+    let moves = (0..n * letters).map(|k| law(k / letters, k % inputs, k % letters / inputs) as u8).collect();
     Given { n, moves, marks: (0..n).map(|s| (s == goal) as u8).collect(), start, mask: 1 }
 }
 

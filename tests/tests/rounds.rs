@@ -17,8 +17,8 @@ fn game(
     goals: &[usize],
     law: impl Fn(usize, usize, usize) -> usize,
 ) -> Game {
-    let letters = 1 << (i + o);
-    let moves = (0..n * letters).map(|k| law(k / letters, k % letters % (1 << i), k % letters >> i)).collect();
+    let (inputs, letters) = (1 << i, 1 << (i + o));
+    let moves = (0..n * letters).map(|k| law(k / letters, k % inputs, k % letters / inputs)).collect();
     Game { i, o, n, moves, goals: (0..n).map(|s| goals.contains(&s)).collect(), mask: 1, mode }
 }
 

@@ -1,4 +1,4 @@
-//! The round number of the specification ("Game"), straight from its meaning: r is the least k for which the
+//! The round number (specification, "Round number"), straight from its meaning: r is the least k for which the
 //! station can answer, with any memory, so that no play has the condition k times, in a row when stable, before
 //! it enters a goal.
 //!
@@ -46,16 +46,21 @@ pub fn safe(board: &Board, k: usize) -> Vec<States> {
     left
 }
 
-/// The round number of a state that the station wins, and the safe pairs of the game for it. When fair, the pairs
-/// with a count of 1 or more are those of the game for k - 1 with one less, so these are settled already.
+/// The round number of a state that the station wins, and the safe pairs of the game for it. When fair, a pair with a
+/// count of 1 or more is one of the game for k - 1 with one less, and is settled already.
 pub fn round(board: &Board, start: usize) -> (usize, Vec<States>) {
     let mut left = vec![];
     for k in 1..=board.game.n {
         match board.game.mode {
-            Mode::Fair => left.insert(0, board.all()),
-            Mode::Stable => left = vec![board.all(); k],
+            Mode::Fair => {
+                left.insert(0, board.all());
+                settle_count(board, &mut left, 0);
+            }
+            Mode::Stable => {
+                left = vec![board.all(); k];
+                settle(board, &mut left, Some(start));
+            }
         }
-        settle(board, &mut left, Some(start).filter(|_| board.game.mode == Mode::Stable));
         if left[0] >> start & 1 == 1 {
             return (k, left);
         }

@@ -33,15 +33,15 @@ static int refused(uint8_t number, size_t place)
 int main(void)
 {
     uint8_t can, reached = 0, row, output, number;
-    size_t n, place, state = 0, input;
+    size_t n, round, place, state = 0, input;
 
     number = airtable_solve_rule(INPUTS, OUTPUTS, AIRTABLE_FAIR,
         (const uint8_t *)rule, strlen(rule), (const uint8_t *)condition, strlen(condition),
         moves, sizeof moves, marks, sizeof marks, station, sizeof station, outside, sizeof outside,
-        &can, &n, &place);
+        &can, &n, &round, &place);
     if (number != AIRTABLE_SERVED)
         return refused(number, place);
-    printf("%s %zu\n", can ? "can" : "cannot", n);
+    printf("%s %zu %zu\n", can ? "can" : "cannot", n, round);
     if (!can)
         return 0;
 

@@ -10,10 +10,10 @@
  *     uint8_t moves[AIRTABLE_MOVES_SIZE(1, 1)], marks[AIRTABLE_MARKS_SIZE(1, 1)];          // i = 1, o = 1
  *     uint8_t station[AIRTABLE_STATION_SIZE(1, 1)], outside[AIRTABLE_OUTSIDE_SIZE(1, 1)];
  *     uint8_t can, reached = 0, row, output;
- *     size_t n, place, state = 0;
+ *     size_t n, round, place, state = 0;
  *     if (airtable_solve_rule(1, 1, AIRTABLE_FAIR, (const uint8_t *)"pUa", 3, (const uint8_t *)"a", 1,
  *             moves, sizeof moves, marks, sizeof marks, station, sizeof station, outside, sizeof outside,
- *             &can, &n, &place) == 0 && can
+ *             &can, &n, &round, &place) == 0 && can
  *         && airtable_follow(1, 1, n, moves, sizeof moves, marks, sizeof marks, station, sizeof station,
  *             1, &state, &reached, &row, &output, &place) == 0 && row)
  *         printf("output %u, goal %s\n", output, reached ? "entered" : "still ahead");
@@ -39,7 +39,7 @@
  *     13  the mask has a bit that stands for no input, or the input or a letter is too large; place: for a letter its
  *         index in `letters`
  *
- * What a call writes. Every single value (can, n, place, satisfied, row, output) is written by every call: on a
+ * What a call writes. Every single value (can, n, round, place, satisfied, row, output) is written by every call: on a
  * refusal it is 0, `place` apart. `state` and `reached` change only when a step is taken. A refused call leaves the
  * buffers as they were, with one exception: refusal 9 sets the first 128 * 2^(i+o) bytes of `moves` to 0. Bytes beyond
  * the sizes below are never touched.
@@ -110,6 +110,9 @@ extern "C" {
  * above). When served:
  *   can      1 if the station wins from state 0, else 0
  *   n        the number of states; they are 0 to n - 1, and state 0 is the start
+ *   round    1 to n if can is 1: by the table, every play from state 0 satisfies the rule at the latest with the round-th
+ *            step that has the condition (stable: the round-th in a row), and no way of answering, with any memory, does
+ *            with less; else 0
  *   moves    byte s * 2^(i+o) + letter: the state after that letter in state s
  *   marks    byte s: 1 if state s is a goal, else 0
  *   station  byte s * 2^i + input: the output to set; 255 all over the rows of states that the outside wins
@@ -120,21 +123,21 @@ uint8_t airtable_solve_rule(size_t i, size_t o, uint8_t mode,
     const uint8_t *rule, size_t rule_length, const uint8_t *condition, size_t condition_length,
     uint8_t *moves, size_t moves_length, uint8_t *marks, size_t marks_length,
     uint8_t *station, size_t station_length, uint8_t *outside, size_t outside_length,
-    uint8_t *can, size_t *n, size_t *place);
+    uint8_t *can, size_t *n, size_t *round, size_t *place);
 
 /*
  * Solves the game on an automaton of your own, with n states from 1 to 128. Refusals in this order: 1, 10, 3, 12, 11, 13.
  *
  * Give at least n * 2^(i+o) bytes of moves and n of marks (any mark but 0 is a goal), laid out as above; they are only
- * read. Lend at least 128 * 2^i bytes for station and 128 for outside; can and the two tables are written as above,
- * with `start` for state 0. Bit x of mask says whether input number x has the condition. The start's own mark counts
+ * read. Lend at least 128 * 2^i bytes for station and 128 for outside; can, round and the two tables are written as
+ * above, with `start` for state 0 and "enters a goal" for "satisfies the rule". Bit x of mask says whether input number x has the condition. The start's own mark counts
  * for nothing until a step enters it.
  */
 uint8_t airtable_solve_given(size_t i, size_t o, uint8_t mode, size_t n,
     const uint8_t *moves, size_t moves_length, const uint8_t *marks, size_t marks_length,
     size_t start, uint16_t mask,
     uint8_t *station, size_t station_length, uint8_t *outside, size_t outside_length,
-    uint8_t *can, size_t *place);
+    uint8_t *can, size_t *round, size_t *place);
 
 /*
  * Takes one step by the station's table: the outside has chosen `input`. Refusals in this order: 1, 10, 3, 12, 13, then

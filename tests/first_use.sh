@@ -213,7 +213,7 @@ echo "$*" >> "$fake/calls"
 cat > /dev/null
 . "$fake/deed"
 mkdir -p target/bin
-printf '#!/bin/sh\nprintf "can 1\\n0 * S %s %%s\\n" $(wc -c)\n' "$(cat "$fake/version")" > target/new
+printf '#!/bin/sh\nprintf "can 1 1\\n0 * S %s %%s\\n" $(wc -c)\n' "$(cat "$fake/version")" > target/new
 chmod +x target/new
 cmp -s target/new target/bin/airtable || cp target/new target/bin/airtable
 echo "rt: reader proved (1 s)"
@@ -246,14 +246,14 @@ builds() { # COUNT
 # The first run of a version: built, and said so.
 is_built() { # NAME VERSION
     version "$2"
-    runs "$1" 0 $'can 1\n0 * S '"$2 5"$'\n' "$with_rt$five" 'proving and building' 'rt: reader proved (1 s)'
+    runs "$1" 0 $'can 1 1\n0 * S '"$2 5"$'\n' "$with_rt$five" 'proving and building' 'rt: reader proved (1 s)'
     builds 1
 }
 
 # A run that has nothing to build and does not need rt.
 is_fresh() { # NAME VERSION
-    runs "$1, no rt" 0 $'can 1\n0 * S '"$2 5"$'\n' "$without_rt$five"
-    runs "$1" 0 $'can 1\n0 * S '"$2 5"$'\n' "$with_rt$five"
+    runs "$1, no rt" 0 $'can 1 1\n0 * S '"$2 5"$'\n' "$without_rt$five"
+    runs "$1" 0 $'can 1 1\n0 * S '"$2 5"$'\n' "$with_rt$five"
     builds 0
 }
 
@@ -287,7 +287,7 @@ for source in crates.txt crates/airtable/stdin crates/airtable/stdout crates/air
     is_fresh "after a change in $source that makes none in the program" $count
 done
 later "$project/crates.txt"
-runs 'a build leaves standard input alone' 0 $'can 1\n0 * S '"$count 5"$'\nmine\n' \
+runs 'a build leaves standard input alone' 0 $'can 1 1\n0 * S '"$count 5"$'\nmine\n' \
     "$with_rt"'printf 12345 > "$room/five"; echo mine | { "$airtable" "$room/five"; cat; }' 'proving and building'
 builds 1
 for other in crates/capi/src/lib.rt crates/game/must-fail/one.edit airtable; do
@@ -343,7 +343,7 @@ ln -s relative "$room/links/twice"
 ln -s "$project" "$room/links/folder"
 for link in '"$room/links/absolute"' 'cd "$room/links" && ./relative' 'cd / && "$room/links/twice"' '"$room/links/folder/airtable"' \
     'PATH=$room/links:$PATH; twice' 'cd "$room/links" && bash twice' 'CDPATH=/tmp; cd "$room" && "a project/airtable"'; do
-    runs "called by $link" 0 $'can 1\n0 * S 27 5\n' "$without_rt$link"' < "$room/five"'
+    runs "called by $link" 0 $'can 1 1\n0 * S 27 5\n' "$without_rt$link"' < "$room/five"'
 done
 
 # ---- programs that do not do their part
@@ -359,16 +359,16 @@ program 'echo refused 15 3'
 runs 'a refusal that is not known' 1 $'refused 15 3\n' "$without_rt$five" 'refusal 15, place 3'
 program 'echo "airtable: cannot read standard input" >&2'
 fails 'the program cannot read' "$without_rt$five" 'airtable: cannot read standard input' 'no whole answer'
-program 'printf "can 2\n0 - S 0\n"; echo "airtable: cannot write standard output" >&2'
+program 'printf "can 2 1\n0 - S 0\n"; echo "airtable: cannot write standard output" >&2'
 fails 'the program cannot write all' "$without_rt$five" 'airtable: cannot write standard output' 'no whole answer'
-for text in '' 'can 2\n0 - S 0\n' 'can 2\n0 - S 0\n1 * S' 'can 1\n0 * S 0\n1 * S 0\n' 'can 1\n0 * S 0\n1' \
-    'can' 'can\n' 'can x\n' 'refused 4 6' 'refused 4 6\n\n' 'Can 1\n0 * S 0\n' '\n'; do
+for text in '' 'can 2 1\n0 - S 0\n' 'can 2 1\n0 - S 0\n1 * S' 'can 1 1\n0 * S 0\n1 * S 0\n' 'can 1 1\n0 * S 0\n1' \
+    'can' 'can\n' 'can x 1\n' 'can 1\n0 * S 0\n' 'can 1 \n0 * S 0\n' 'refused 4 6' 'refused 4\n' 'refused 4 6\n\n' 'Can 1 1\n0 * S 0\n' '\n'; do
     program "printf '$text'"
     fails "the program prints '$text'" "$without_rt$five" 'the program gave no whole answer'
 done
 program 'exit 3'
 fails 'the program fails' "$without_rt$five" 'the program failed, with status 3'
-program 'printf "can 1\n0 * S 0\n"; kill -SEGV $$'
+program 'printf "can 1 1\n0 * S 0\n"; kill -SEGV $$'
 fails 'the program dies' "$without_rt$five" 'the program failed, with status 139'
 
 echo "first use: $cases cases, as expected"

@@ -4,7 +4,7 @@
 use crate::inputs::Rule;
 use crate::library::Library;
 use solver::automaton::Automaton;
-use solver::calls::{game_of, game_of_given, solve_given, solve_rule, Buffers, Given};
+use solver::calls::{game_of, game_of_given, solve_given, solve_rule, Buffers, Given, Verdict};
 use solver::judge::judge;
 use solver::reader::read;
 use solver::tree::condition_mask;
@@ -35,7 +35,7 @@ pub fn mask_of(rule: &Rule) -> u16 {
     condition_mask(&tree, rule.i)
 }
 
-/// Compares number, verdict, n, moves and marks with the solver's, and has the tables judged.
+/// Compares number, verdict, n, round number, moves and marks with the solver's, and has the tables judged.
 /// Hands back the library's buffers; nothing if both refuse with the same number.
 pub fn check_rule(rule: &Rule, mode: Mode) -> Option<Library> {
     let Rule { i, o, .. } = *rule;
@@ -49,33 +49,37 @@ pub fn check_rule(rule: &Rule, mode: Mode) -> Option<Library> {
         Ok(verdict) if library.number == 0 => verdict,
         _ => differ(&format!("{name}: the library answers {}, the solver {wanted:?}", library.number)),
     };
-    if (library.can == 1, library.n) != (verdict.can, verdict.n) {
-        differ(&format!("{name}: can {} n {}, wanted {verdict:?}", library.can, library.n));
+    let told = Verdict { can: library.can == 1, n: library.n, round: library.round };
+    if told != verdict {
+        differ(&format!("{name}: {told:?}, wanted {verdict:?}"));
     }
     if library.moves != buffers.moves || library.marks != buffers.marks {
         differ(&format!("{name}: moves or marks"));
     }
     let game = game_of(&automaton_of(&library, rule.letters()), i, o, mask_of(rule), mode);
-    if let Err(what) = judge(&game, &library.station, &library.outside) {
+    if let Err(what) = judge(&game, 0, library.round, &library.station, &library.outside) {
         differ(&format!("{name}: {what}"));
     }
     Some(library)
 }
 
-/// Compares the verdict on a given automaton with the solver's, and has the tables judged.
-pub fn check_given(name: &str, i: usize, o: usize, mode: Mode, given: &Given) {
+/// Compares the verdict on a given automaton with the solver's, and has the tables judged. Hands back the verdict.
+pub fn check_given(name: &str, i: usize, o: usize, mode: Mode, given: &Given) -> Verdict {
     let mut library = Library::new(i, o);
     library.solve_given(i, o, mode, given);
     let (mut station, mut outside) = (vec![0; 128 << i], vec![0; 128]);
     let wanted = solve_given(i, o, mode, given, &mut station, &mut outside);
-    if library.number != 0 || wanted != Ok(library.can == 1) {
-        differ(&format!("{name}: number {} can {}, wanted {wanted:?}", library.number, library.can));
+    let told = Verdict { can: library.can == 1, n: given.n, round: library.round };
+    if library.number != 0 || wanted != Ok(told) {
+        differ(&format!("{name}: number {} and {told:?}, wanted {wanted:?}", library.number));
     }
     let winners = |outside: &[u8]| outside.iter().map(|&byte| byte == 255).collect::<Vec<bool>>();
     if winners(&library.outside) != winners(&outside) {
         differ(&format!("{name}: the winners"));
     }
-    if let Err(what) = judge(&game_of_given(i, o, mode, given), &library.station, &library.outside) {
+    let game = game_of_given(i, o, mode, given);
+    if let Err(what) = judge(&game, given.start, library.round, &library.station, &library.outside) {
         differ(&format!("{name}: {what}"));
     }
+    told
 }

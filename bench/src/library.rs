@@ -14,6 +14,7 @@ pub struct Library {
     pub number: u8,
     pub can: u8,
     pub n: usize,
+    pub round: usize,
 }
 
 /// The mode as the header's number.
@@ -28,7 +29,7 @@ impl Library {
     /// Buffers of exactly the share that i and o ask for.
     pub fn new(i: usize, o: usize) -> Library {
         let (moves, station) = (vec![0; 128 << (i + o)], vec![0; 128 << i]);
-        Library { moves, marks: vec![0; 128], station, outside: vec![0; 128], number: 0, can: 0, n: 0 }
+        Library { moves, marks: vec![0; 128], station, outside: vec![0; 128], number: 0, can: 0, n: 0, round: 0 }
     }
 
     /// The call for a rule.
@@ -53,6 +54,7 @@ impl Library {
                 self.outside.len(),
                 &mut self.can,
                 &mut self.n,
+                &mut self.round,
                 &mut place,
             )
         };
@@ -78,6 +80,7 @@ impl Library {
                 self.outside.as_mut_ptr(),
                 self.outside.len(),
                 &mut self.can,
+                &mut self.round,
                 &mut place,
             )
         };

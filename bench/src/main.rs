@@ -3,9 +3,10 @@
 //!
 //! clock, timed      interleaved samples and their medians; the calls that are timed
 //! library, compare  the C interface; library and solver give the same answers
-//! inputs, families  rules; shapes, effort  given automata and what they ask of a solver by ranks
+//! inputs, families  rules; shapes, effort  given automata and what they ask of a solver by ranks; ways  others, for the
+//!                   round number
 //! mona, process, listing, language, outside  MONA: translation, runs, what it prints, is it the same
-//! rules, givens, growth, stack  the parts; aims, table  what falls short, and the printing
+//! rules, givens, rounds, growth, stack  the parts; aims, table  what falls short, and the printing
 
 mod aims;
 mod clock;
@@ -21,11 +22,13 @@ mod listing;
 mod mona;
 mod outside;
 mod process;
+mod rounds;
 mod rules;
 mod shapes;
 mod stack;
 mod table;
 mod timed;
+mod ways;
 
 use aims::Aims;
 use outside::Runs;
@@ -47,6 +50,7 @@ fn main() {
         None => println!("\nMONA is not installed here; its columns are empty."),
     }
     givens::print(&mut aims);
+    rounds::print(&mut aims);
     growth::print();
     if let Some(program) = std::env::args().nth(1) {
         stack::print(&program);

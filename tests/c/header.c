@@ -20,7 +20,7 @@ static uint8_t moves[ROOM], marks[ROOM], station[ROOM], outside[ROOM];
 
 /* The single values of all calls. */
 static uint8_t can, satisfied, reached, row, output;
-static size_t n, place, state;
+static size_t n, round_number, place, state;
 
 static unsigned long checked, differing;
 
@@ -54,7 +54,7 @@ static void reset(void)
     memset(station, OLD_STATION, ROOM);
     memset(outside, OLD_OUTSIDE, ROOM);
     can = satisfied = row = output = 0x5A;
-    n = place = 7777;
+    n = round_number = place = 7777;
 }
 
 /* The rule call on texts that end in a 0 byte, with more room than it needs, of a different size in each buffer. */
@@ -63,7 +63,7 @@ static uint8_t solve(size_t i, size_t o, uint8_t mode, const char *rule, const c
     reset();
     return airtable_solve_rule(i, o, mode,
         (const uint8_t *)rule, strlen(rule), (const uint8_t *)condition, strlen(condition),
-        moves, ROOM, marks, ROOM - 1, station, ROOM - 2, outside, ROOM - 3, &can, &n, &place);
+        moves, ROOM, marks, ROOM - 1, station, ROOM - 2, outside, ROOM - 3, &can, &n, &round_number, &place);
 }
 
 /* Play the filler p, and not q, until the studio is ready (a) and goes live (q). State 1 is lost, 3 the goal. */
@@ -77,6 +77,7 @@ static void served_rule(void)
     CHECK(solve(1, 2, AIRTABLE_FAIR, rule, "a"), AIRTABLE_SERVED);
     CHECK(can, 1);
     CHECK(n, 4);
+    CHECK(round_number, 1);
     CHECK(place, 0);
     CHECK(memcmp(moves, rule_moves, sizeof rule_moves), 0);
     CHECK_BYTES(moves, sizeof rule_moves, AIRTABLE_MOVES_SIZE(1, 2), 0);
@@ -105,8 +106,9 @@ static void sizes(void)
                 CHECK(airtable_solve_rule(i, o, AIRTABLE_FAIR, (const uint8_t *)"F1", 2, (const uint8_t *)"1", 1,
                     moves, AIRTABLE_MOVES_SIZE(i, o) - (k == 1), marks, AIRTABLE_MARKS_SIZE(i, o) - (k == 2),
                     station, AIRTABLE_STATION_SIZE(i, o) - (k == 3), outside, AIRTABLE_OUTSIDE_SIZE(i, o) - (k == 4),
-                    &can, &n, &place), k == 0 ? AIRTABLE_SERVED : AIRTABLE_REFUSED_BUFFER);
+                    &can, &n, &round_number, &place), k == 0 ? AIRTABLE_SERVED : AIRTABLE_REFUSED_BUFFER);
                 CHECK(can, k == 0);
+                CHECK(round_number, k == 0);
             }
 }
 
@@ -118,8 +120,23 @@ static void modes(void)
         CHECK(solve(1, 1, (uint8_t)mode, "F(a&Xa)", "a"), AIRTABLE_SERVED);
         CHECK(can, mode == AIRTABLE_STABLE);
         CHECK(n, 4);
+        CHECK(round_number, mode == AIRTABLE_STABLE ? 2 : 0);
     }
     CHECK(AIRTABLE_FAIR == AIRTABLE_STABLE, 0);
+}
+
+/* The round number: any two steps with a closed contact, and any three or two in a row. */
+static void rounds(void)
+{
+    CHECK(solve(1, 1, AIRTABLE_FAIR, "F(a&XFa)", "a"), AIRTABLE_SERVED);
+    CHECK(n, 5);
+    CHECK(round_number, 2);
+    CHECK(solve(1, 1, AIRTABLE_FAIR, "F(a&X(a|F(a&XFa)))", "a"), AIRTABLE_SERVED);
+    CHECK(n, 7);
+    CHECK(round_number, 3);
+    CHECK(solve(1, 1, AIRTABLE_STABLE, "F(a&X(a|F(a&XFa)))", "a"), AIRTABLE_SERVED);
+    CHECK(n, 7);
+    CHECK(round_number, 2);
 }
 
 /* All that a refused rule call may leave: the moves apart, the buffers are as they were. */
@@ -127,6 +144,7 @@ static void check_refused(int line)
 {
     check(line, "can", can, 0);
     check(line, "n", n, 0);
+    check(line, "round_number", round_number, 0);
     check_bytes(line, "marks", marks, 0, ROOM, OLD_MARKS);
     check_bytes(line, "station", station, 0, ROOM, OLD_STATION);
     check_bytes(line, "outside", outside, 0, ROOM, OLD_OUTSIDE);
@@ -178,7 +196,7 @@ static uint8_t solve_given(size_t states, size_t start, uint16_t mask)
     reset();
     return airtable_solve_given(2, 1, AIRTABLE_FAIR, states,
         given_moves, sizeof given_moves, given_marks, sizeof given_marks, start, mask,
-        station, ROOM - 4, outside, ROOM - 5, &can, &place);
+        station, ROOM - 4, outside, ROOM - 5, &can, &round_number, &place);
 }
 
 /* Everything that the call for a given automaton writes. */
@@ -186,6 +204,7 @@ static void served_given(void)
 {
     CHECK(solve_given(GIVEN_STATES, 2, GIVEN_MASK), AIRTABLE_SERVED);
     CHECK(can, 1);
+    CHECK(round_number, 1);
     CHECK(place, 0);
     CHECK_BYTES(station, 0, 8, 255);
     CHECK(memcmp(station + 8, "\0\1\0\0", 4), 0);
@@ -196,6 +215,24 @@ static void served_given(void)
     CHECK_BYTES(outside, AIRTABLE_OUTSIDE_SIZE(2, 1), ROOM, OLD_OUTSIDE);
     CHECK(solve_given(GIVEN_STATES, 1, GIVEN_MASK), AIRTABLE_SERVED);
     CHECK(can, 0);
+    CHECK(round_number, 0);
+}
+
+/* A ring of three states without inputs and outputs: the goal, 1, is entered from itself by the third step. */
+static void given_rounds(void)
+{
+    static const uint8_t ring_moves[3] = {1, 2, 0}, ring_marks[3] = {0, 7, 0};
+    uint8_t mode;
+    for (mode = AIRTABLE_FAIR; mode <= AIRTABLE_STABLE; mode++) {
+        size_t start;
+        for (start = 0; start < 3; start++) {
+            reset();
+            CHECK(airtable_solve_given(0, 0, mode, 3, ring_moves, 3, ring_marks, 3, start, 1,
+                station, AIRTABLE_STATION_SIZE(0, 0), outside, AIRTABLE_OUTSIDE_SIZE(0, 0), &can, &round_number, &place), AIRTABLE_SERVED);
+            CHECK(can, 1);
+            CHECK(round_number, start == 0 ? 1 : start == 1 ? 3 : 2);
+        }
+    }
 }
 
 /* The exact lengths are enough for a given automaton, and one byte less is too short. */
@@ -207,8 +244,9 @@ static void given_sizes(void)
         CHECK(airtable_solve_given(2, 1, AIRTABLE_FAIR, GIVEN_STATES,
             given_moves, (size_t)24 - (k == 1), given_marks, (size_t)3 - (k == 2), 2, GIVEN_MASK,
             station, AIRTABLE_STATION_SIZE(2, 1) - (k == 3), outside, AIRTABLE_OUTSIDE_SIZE(2, 1) - (k == 4),
-            &can, &place), k == 0 ? AIRTABLE_SERVED : AIRTABLE_REFUSED_BUFFER);
+            &can, &round_number, &place), k == 0 ? AIRTABLE_SERVED : AIRTABLE_REFUSED_BUFFER);
         CHECK(can, k == 0);
+        CHECK(round_number, k == 0);
         CHECK(place, 0);
     }
 }
@@ -218,6 +256,7 @@ static void check_refused_given(int line, size_t wanted_place)
 {
     check(line, "place", place, wanted_place);
     check(line, "can", can, 0);
+    check(line, "round_number", round_number, 0);
     check_bytes(line, "station", station, 0, ROOM, OLD_STATION);
     check_bytes(line, "outside", outside, 0, ROOM, OLD_OUTSIDE);
 }
@@ -241,7 +280,7 @@ static void refused_given(void)
     wrong_moves[21] = GIVEN_STATES;
     reset();
     CHECK(airtable_solve_given(2, 1, AIRTABLE_STABLE, GIVEN_STATES, wrong_moves, sizeof wrong_moves,
-        given_marks, sizeof given_marks, 2, GIVEN_MASK, station, ROOM, outside, ROOM - 1, &can, &place), AIRTABLE_REFUSED_MOVE);
+        given_marks, sizeof given_marks, 2, GIVEN_MASK, station, ROOM, outside, ROOM - 1, &can, &round_number, &place), AIRTABLE_REFUSED_MOVE);
     check_refused_given(__LINE__, 21);
 }
 
@@ -335,8 +374,10 @@ int main(void)
     served_rule();
     sizes();
     modes();
+    rounds();
     refused_rules();
     served_given();
+    given_rounds();
     given_sizes();
     refused_given();
     followed();

@@ -27,11 +27,12 @@ pub struct Buffers {
     pub outside: Vec<u8>,
 }
 
-/// What the call for a rule hands back: the verdict and the count of states.
+/// What a solving call hands back: the verdict, the count of states and the round number.
 #[derive(Clone, Copy, Debug, PartialEq, Eq)]
 pub struct Verdict {
     pub can: bool,
     pub n: usize,
+    pub round: usize,
 }
 
 /// An automaton given directly.
@@ -133,13 +134,13 @@ pub fn solve_rule(
         return Err(Refusal { number: 9, place: None });
     };
     let game = game_of(&automaton, i, o, mask, mode);
-    let tables = tables::build(&game);
+    let tables = tables::build(&game, 0);
     let moves: Vec<u8> = game.moves.iter().map(|&t| t as u8).collect();
     let marks: Vec<u8> = game.goals.iter().map(|&goal| goal as u8).collect();
     write(&mut buffers.moves, STATES << (i + o), &moves, 0);
     write(&mut buffers.marks, STATES, &marks, 0);
     write_tables(i, &tables, &mut buffers.station, &mut buffers.outside);
-    Ok(Verdict { can: tables.outside[0] == 255, n: game.n })
+    Ok(Verdict { can: tables.outside[0] == 255, n: game.n, round: tables.round })
 }
 
 /// The refusals of the call for a given automaton, in its order: 1, 10, 3, 12, 11, 13.
@@ -163,7 +164,7 @@ pub fn game_of_given(i: usize, o: usize, mode: Mode, given: &Given) -> Game {
     Game { i, o, n: given.n, moves, goals, mask: given.mask, mode }
 }
 
-/// The call for a given automaton; hands back the verdict.
+/// The call for a given automaton.
 pub fn solve_given(
     i: usize,
     o: usize,
@@ -171,11 +172,11 @@ pub fn solve_given(
     given: &Given,
     station: &mut [u8],
     outside: &mut [u8],
-) -> Result<bool, Refusal> {
+) -> Result<Verdict, Refusal> {
     check_given(i, o, given, station.len(), outside.len())?;
-    let tables = tables::build(&game_of_given(i, o, mode, given));
+    let tables = tables::build(&game_of_given(i, o, mode, given), given.start);
     write_tables(i, &tables, station, outside);
-    Ok(tables.outside[given.start] == 255)
+    Ok(Verdict { can: tables.outside[given.start] == 255, n: given.n, round: tables.round })
 }
 
 /// The follower's lent buffers.

@@ -100,6 +100,16 @@ impl Board<'_> {
         })
     }
 
+    /// Those of some states where the station has an answer to every input: into a goal, or into `with` under the
+    /// condition and into `without` otherwise.
+    pub fn answered(&self, among: States, without: States, with: States) -> States {
+        let serves = |s: usize, x: usize| {
+            let into = if self.game.condition(x) { with } else { without };
+            self.successors[s * self.game.inputs() + x] & (into | self.goals) != 0
+        };
+        self.states(|s| among >> s & 1 == 1 && (0..self.game.inputs()).all(|x| serves(s, x)))
+    }
+
     /// Where the outside has an input after which every output leads, without entering a goal,
     /// into `narrow`, or under the condition into `wide` or `narrow`.
     fn outside_step(&self, wide: States, narrow: States) -> States {

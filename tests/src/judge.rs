@@ -3,14 +3,17 @@
 //! Each such claim is then checked exactly, from every state:
 //!
 //! station  no play that has not entered a goal comes to a byte that is no output; in fair mode it
-//!          has fewer than n steps with the condition, in stable mode fewer than n of them in a row
+//!          has fewer than n steps with the condition, in stable mode fewer than n of them in a row;
+//!          from the start fewer than the round number
 //! outside  no play enters a goal or comes to a byte that is no input; in fair mode it has fewer
 //!          than n steps in a row without the condition, in stable mode fewer than n in all
 //!
-//! Every claimed state is a start, so the graph over all claimed states has exactly these plays.
+//! Every claimed state is a start, so the graph over all claimed states has exactly these plays; and the part
+//! of it that paths from the start go through has, as its longest, the longest of these paths. That no table
+//! does with a smaller round number is not judged here: round.rs finds the number.
 
 use crate::game::Game;
-use crate::longest::{most_in_a_row, most_marked, Edge};
+use crate::longest::{edges_from, most_in_a_row, most_marked, Edge};
 use crate::Mode;
 use crate::STATES;
 
@@ -64,11 +67,11 @@ fn outside_edges(game: &Game, outside: &[u8], wins: &[bool]) -> Result<Vec<Edge>
     Ok(edges)
 }
 
-/// Checks that a largest count exists and is below n.
-fn below(count: Option<usize>, n: usize, what: &str) -> Result<(), String> {
+/// Checks that a largest count exists and is below a number.
+fn below(count: Option<usize>, number: usize, what: &str) -> Result<(), String> {
     match count {
-        Some(count) if count < n => Ok(()),
-        Some(count) => Err(format!("{what}: {count} with n {n}")),
+        Some(count) if count < number => Ok(()),
+        Some(count) => Err(format!("{what}: {count} and not below {number}")),
         None => Err(format!("{what}: without end")),
     }
 }
@@ -80,13 +83,30 @@ fn once(mut edges: Vec<Edge>) -> Vec<Edge> {
     edges
 }
 
-/// Judges n states' share of both tables; hands back for each state whether the station wins it,
-/// or what is wrong. A good answer is a proof: no state can be won by both sides.
-pub fn judge(game: &Game, station: &[u8], outside: &[u8]) -> Result<Vec<bool>, String> {
+/// Checks the round number: the table keeps it from the start, and it is 0 where the outside wins the start.
+fn keeps_round(game: &Game, edges: &[Edge], start: usize, round: usize, wins: bool) -> Result<(), String> {
+    if wins != (round > 0) {
+        return Err(format!("the round number is {round}, and that the station wins the start is {wins}"));
+    }
+    let edges = edges_from(game.n, edges, start);
+    let most = match game.mode {
+        Mode::Fair => most_marked(game.n, &edges),
+        Mode::Stable => most_in_a_row(game.n, &edges),
+    };
+    if wins {
+        below(most, round, "station table, steps from the start with the condition and no goal")?;
+    }
+    Ok(())
+}
+
+/// Judges n states' share of both tables, the station's with a round number from the start; hands back for each
+/// state whether the station wins it, or what is wrong. A good answer is a proof: no state can be won by both sides.
+pub fn judge(game: &Game, start: usize, round: usize, station: &[u8], outside: &[u8]) -> Result<Vec<bool>, String> {
     let claims: Result<Vec<bool>, String> = (0..game.n).map(|s| claim(game, station, outside, s)).collect();
     let wins = claims?;
     let mine = once(station_edges(game, station, &wins)?);
     let theirs = once(outside_edges(game, outside, &wins)?);
+    keeps_round(game, &mine, start, round, wins[start])?;
     let (mine, theirs) = match game.mode {
         Mode::Fair => (most_marked(game.n, &mine), most_in_a_row(game.n, &theirs)),
         Mode::Stable => (most_in_a_row(game.n, &mine), most_marked(game.n, &theirs)),
@@ -98,8 +118,13 @@ pub fn judge(game: &Game, station: &[u8], outside: &[u8]) -> Result<Vec<bool>, S
 
 /// Judges whole table buffers: the rows, the rest of 128 states' share, and the bytes beyond,
 /// which must be as they were before the call.
-pub fn judge_buffers(game: &Game, station: (&[u8], &[u8]), outside: (&[u8], &[u8])) -> Result<Vec<bool>, String> {
-    let wins = judge(game, station.0, outside.0)?;
+pub fn judge_buffers(
+    game: &Game,
+    (start, round): (usize, usize),
+    station: (&[u8], &[u8]),
+    outside: (&[u8], &[u8]),
+) -> Result<Vec<bool>, String> {
+    let wins = judge(game, start, round, station.0, outside.0)?;
     frame("station", station.0, station.1, game.n * game.inputs(), STATES * game.inputs(), 255)?;
     frame("outside", outside.0, outside.1, game.n, STATES, 255)?;
     Ok(wins)

@@ -8,6 +8,7 @@
 //! meaning    LTLf by positions of a list
 //! automaton  vectors, states, breadth-first discovery
 //! game       both games by nested fixpoints over sets of states
+//! round      the round number by a game on pairs of a state and a count
 //! tables     tables out of the stages of the fixpoints
 //! longest    longest counts on paths of a graph, cycles included
 //! judge      exact judgement of tables, whoever made them
@@ -32,6 +33,7 @@ pub mod makers;
 pub mod meaning;
 pub mod prototypes;
 pub mod reader;
+pub mod round;
 pub mod signatures;
 pub mod tables;
 pub mod tree;

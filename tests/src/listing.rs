@@ -75,7 +75,7 @@ fn state_line(i: usize, buffers: &Buffers, s: usize) -> String {
 
 /// The first line of a listing.
 pub fn head(verdict: Verdict) -> String {
-    format!("{} {}\n", if verdict.can { "can" } else { "cannot" }, verdict.n)
+    format!("{} {} {}\n", if verdict.can { "can" } else { "cannot" }, verdict.n, verdict.round)
 }
 
 /// What the program prints for an input.

@@ -26,6 +26,12 @@ fn reachable(nodes: usize, edges: &[Edge]) -> Vec<u128> {
     reach
 }
 
+/// The edges that some path from a node takes.
+pub fn edges_from(nodes: usize, edges: &[Edge], start: usize) -> Vec<Edge> {
+    let reached = reachable(nodes, edges)[start] | 1 << start;
+    edges.iter().filter(|edge| reached >> edge.from & 1 == 1).copied().collect()
+}
+
 /// The largest count of marked edges on a path, or nothing if paths have any number of them
 /// (a cycle has a marked edge).
 pub fn most_marked(nodes: usize, edges: &[Edge]) -> Option<usize> {

@@ -293,6 +293,49 @@ pub fn game_shape(chance: &mut Chance, i: usize, o: usize, n: usize) -> (Vec<u8>
     (moves, goals(chance, n))
 }
 
+/// Where a move of `round_shape` leads from position k of the way, by the kind of the state there.
+fn route(chance: &mut Chance, (kind, last): (usize, usize), k: usize, y: usize, condition: bool) -> usize {
+    match (kind, condition) {
+        (0 | 1, true) => (k + 1).min(last),
+        (0, false) => k,
+        (1, false) => chance.between(0, k),
+        (2, true) if y == 0 => k,
+        (2, true) => chance.between((k + 1).min(last), last),
+        (2, false) | (_, true) => last,
+        _ => chance.below(last + 1),
+    }
+}
+
+/// Moves, marks and a mask on which round numbers are large, and in the stable mode those of the states differ much. The
+/// states stand on a way to the last one, a goal, in the order of their numbers or against it; or on a ring, whose first
+/// one is the goal. A step with the condition goes one state on, or where the station likes, or to the last one; a step
+/// without it waits, falls back or goes anywhere.
+pub fn round_shape(chance: &mut Chance, i: usize, o: usize, n: usize) -> (Vec<u8>, Vec<u8>, u16) {
+    let (inputs, outputs, last) = (1usize << i, 1usize << o, n - 1);
+    let all = ((1u32 << inputs) - 1) as u16;
+    let mask = if chance.one_in(8) { all } else { (chance.draw() as u16 & all).max(1) };
+    let turned = chance.one_in(2);
+    let place = |k: usize| if turned { last - k } else { k };
+    let steps = chance.pick(&[1, 1, 2, 4]);
+    let kinds: Vec<usize> = (0..n).map(|_| if chance.below(4) < steps { 0 } else { chance.below(4) }).collect();
+    let (ring, wild) = (chance.one_in(6), chance.pick(&[1000, 200, 30, 8]));
+    let mut moves = vec![];
+    for k in (0..n).map(place) {
+        for letter in 0..inputs * outputs {
+            let condition = mask >> (letter % inputs) & 1 == 1;
+            let on = route(chance, (kinds[k], last), k, letter / inputs, condition);
+            let on = if ring && k == last { 0 } else { on };
+            moves.push(place(if chance.one_in(wild) { chance.below(n) } else { on }) as u8);
+        }
+    }
+    let mut marks = vec![0; n];
+    marks[place(if ring { 0 } else { last })] = 1;
+    if chance.one_in(8) {
+        marks[chance.below(n)] = 3;
+    }
+    (moves, marks, mask)
+}
+
 /// A name in reach, sometimes negated; i or o is at least 1.
 fn literal(chance: &mut Chance, i: usize, o: usize) -> String {
     let name = chance.pick(&[&b"abcd"[..i], &b"pqrs"[..o]].concat()) as char;

@@ -67,7 +67,7 @@ fn rule_with_too_many_states_clears_the_moves() {
 #[test]
 fn rule_fills_the_share_of_128_states() {
     let mut space = filled([513, 129, 257, 129]);
-    assert_eq!(solve_rule(1, 1, Fair, b"Fp", b"1", &mut space), Ok(Verdict { can: true, n: 3 }));
+    assert_eq!(solve_rule(1, 1, Fair, b"Fp", b"1", &mut space), Ok(Verdict { can: true, n: 3, round: 1 }));
     // State 0 start, 1 without p so far, 2 with p.
     assert_eq!(space.moves[..12], [1, 1, 2, 2, 1, 1, 2, 2, 2, 2, 2, 2]);
     assert!(space.moves[12..512].iter().all(|&byte| byte == 0) && space.moves[512] == 7);
@@ -109,8 +109,10 @@ fn given_order() {
     bad.moves = vec![0, 0, 0, 0, 9];
     assert_eq!(ask(1, &bad, 256, 128), plain(13));
     assert_eq!(ask(1, &Given { moves: vec![0; 3], ..given() }, 256, 128), plain(3));
-    assert_eq!(ask(1, &given(), 256, 128), Ok(true), "no input has the condition");
-    assert_eq!(ask(1, &Given { mask: 2, ..given() }, 256, 128), Ok(false));
+    let can = Ok(Verdict { can: true, n: 1, round: 1 });
+    assert_eq!(ask(1, &given(), 256, 128), can, "no input has the condition");
+    let cannot = Ok(Verdict { can: false, n: 1, round: 0 });
+    assert_eq!(ask(1, &Given { mask: 2, ..given() }, 256, 128), cannot);
 }
 
 #[test]

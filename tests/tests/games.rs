@@ -5,7 +5,7 @@ use solver::automaton::{build, build_wide};
 use solver::chance::Chance;
 use solver::game::{winners, Game};
 use solver::judge::{frame, judge};
-use solver::longest::{most_in_a_row, most_marked, Edge};
+use solver::longest::{edges_from, most_in_a_row, most_marked, Edge};
 use solver::makers::{game_shape, rule_text};
 use solver::meaning::satisfies;
 use solver::reader::read;
@@ -30,8 +30,9 @@ fn tables_pass_the_judge() {
     let mut won = [0, 0];
     for _ in 0..3_000 {
         let game = random_game(&mut chance, 12);
-        let tables = build_with(&game, &mut |serving| serving[chance.below(serving.len())]);
-        let wins = judge(&game, &tables.station, &tables.outside).unwrap();
+        let start = chance.below(game.n);
+        let tables = build_with(&game, start, &mut |serving| serving[chance.below(serving.len())]);
+        let wins = judge(&game, start, tables.round, &tables.station, &tables.outside).unwrap();
         assert_eq!(wins, winners(&game));
         wins.iter().for_each(|&win| won[win as usize] += 1);
     }
@@ -39,9 +40,9 @@ fn tables_pass_the_judge() {
 }
 
 /// Plays by the letter of demand 3, for small games: whether some play from `s` that follows the
-/// station table and enters no goal comes to a bad byte or to n condition steps (in a row).
-fn station_beaten(game: &Game, station: &[u8], s: usize, count: usize, depth: usize) -> bool {
-    if count == game.n {
+/// station table and enters no goal comes to a bad byte or to `most` condition steps (in a row).
+fn station_beaten(game: &Game, station: &[u8], s: usize, count: usize, most: usize, depth: usize) -> bool {
+    if count == most {
         return true;
     }
     if depth == 0 {
@@ -55,7 +56,7 @@ fn station_beaten(game: &Game, station: &[u8], s: usize, count: usize, depth: us
         let t = game.step(s, x, y);
         let kept = if game.mode == Mode::Fair { count } else { 0 };
         let count = if game.condition(x) { count + 1 } else { kept };
-        !game.goals[t] && station_beaten(game, station, t, count, depth - 1)
+        !game.goals[t] && station_beaten(game, station, t, count, most, depth - 1)
     })
 }
 
@@ -93,25 +94,29 @@ fn spoil(chance: &mut Chance, table: &[u8], range: usize) -> Vec<u8> {
 #[test]
 fn the_judge_agrees_with_plays_one_by_one() {
     let mut chance = Chance::new(6, 0, 0);
-    let mut bad = 0;
-    for _ in 0..3_000 {
+    let (mut bad, mut short) = (0, 0);
+    for _ in 0..8_000 {
         let mut game = random_game(&mut chance, 3);
         game.i = game.i.min(1);
         game.o = game.o.min(1);
         game.mask &= (1 << (1 << game.i)) - 1;
-        let good = tables(&game);
+        let start = chance.below(game.n);
+        let good = tables(&game, start);
         let station = spoil(&mut chance, &good.station, game.outputs());
         let outside = spoil(&mut chance, &good.outside, game.inputs());
         let wins = winners(&game);
         let depth = game.n * game.n + 1;
-        let beaten = (0..game.n).any(|s| match wins[s] {
-            true => station_beaten(&game, &station, s, 0, depth),
+        let from_any = (0..game.n).any(|s| match wins[s] {
+            true => station_beaten(&game, &station, s, 0, game.n, depth),
             false => outside_beaten(&game, &outside, s, 0, depth),
         });
-        bad += beaten as usize;
-        assert_eq!(judge(&game, &station, &outside).is_err(), beaten, "{game:?} {station:?} {outside:?}");
+        let from_start = wins[start] && station_beaten(&game, &station, start, 0, good.round, depth);
+        bad += from_any as usize;
+        short += (from_start && !from_any) as usize;
+        let judged = judge(&game, start, good.round, &station, &outside);
+        assert_eq!(judged.is_err(), from_any || from_start, "{game:?} {station:?} {outside:?}");
     }
-    assert!(bad > 100, "{bad}");
+    assert!(bad > 500 && short > 15, "{bad} {short}");
 }
 
 #[test]
@@ -126,11 +131,39 @@ fn hollow_and_blank_tables_fail() {
         mask: 1,
         mode: Mode::Fair,
     };
-    assert_eq!(judge(&game, &[1, 1, 0], &[255; 3]), Ok(vec![true; 3]));
-    assert!(judge(&game, &[1, 0, 0], &[255; 3]).is_err());
-    assert!(judge(&game, &[255; 3], &[255; 3]).is_err());
-    assert!(judge(&game, &[255; 3], &[0; 3]).is_err());
-    assert!(judge(&game, &[1, 1, 2], &[255; 3]).is_err());
+    assert_eq!(judge(&game, 0, 2, &[1, 1, 0], &[255; 3]), Ok(vec![true; 3]));
+    assert!(judge(&game, 0, 2, &[1, 0, 0], &[255; 3]).is_err());
+    assert!(judge(&game, 0, 2, &[255; 3], &[255; 3]).is_err());
+    assert!(judge(&game, 0, 2, &[255; 3], &[0; 3]).is_err());
+    assert!(judge(&game, 0, 2, &[1, 1, 2], &[255; 3]).is_err());
+    for round in [0, 1] {
+        assert!(judge(&game, 0, round, &[1, 1, 0], &[255; 3]).is_err(), "two steps are needed");
+        assert_eq!(judge(&game, 1, round, &[1, 1, 0], &[255; 3]).is_ok(), round == 1);
+    }
+}
+
+#[test]
+fn a_table_that_keeps_only_n_from_the_start_fails() {
+    // The start, 0, has a way to the goal, 3, in one step (output 1) and one over 1 and 2, where input 1 lacks the
+    // condition and stays. i = o = 1.
+    let law = |s: usize, x: usize, y: usize| match (s, x, y) {
+        (0, _, 1) => 3,
+        (1 | 2, 1, _) => s,
+        _ => (s + 1).min(3),
+    };
+    let moves: Vec<usize> = (0..16).map(|k| law(k / 4, k % 2, k / 2 % 2)).collect();
+    for mode in [Mode::Fair, Mode::Stable] {
+        let goals = vec![false, false, false, true];
+        let game = Game { i: 1, o: 1, n: 4, moves: moves.clone(), goals, mask: 1, mode };
+        let (direct, round_about) = ([1, 1, 0, 0, 0, 0, 0, 0], [0, 1, 0, 0, 0, 0, 0, 0]);
+        assert_eq!(tables(&game, 0).round, 1);
+        assert!(judge(&game, 0, 1, &direct, &[255; 4]).is_ok());
+        assert!(judge(&game, 0, 1, &round_about, &[255; 4]).is_err(), "three steps, below n = 4");
+        assert!(judge(&game, 0, 2, &round_about, &[255; 4]).is_err());
+        assert!(judge(&game, 0, 3, &round_about, &[255; 4]).is_ok());
+        // From a state behind the start the detour does not count.
+        assert!(judge(&game, 2, 1, &round_about, &[255; 4]).is_ok());
+    }
 }
 
 #[test]
@@ -143,6 +176,9 @@ fn longest_counts() {
     assert_eq!(most_marked(2, &ring), None);
     assert_eq!(most_in_a_row(2, &ring), Some(1));
     assert_eq!(most_in_a_row(1, &[edge(0, 0, true)]), None);
+    assert_eq!(edges_from(4, &path, 2), path[2..]);
+    assert_eq!(edges_from(4, &path, 3), []);
+    assert_eq!(edges_from(2, &ring, 1), ring);
     let round = [edge(0, 3, false), edge(3, 2, false), edge(2, 1, false), edge(1, 0, true)];
     assert_eq!(most_marked(4, &round), None);
 }

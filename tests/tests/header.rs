@@ -77,7 +77,7 @@ fn every_swap_in_a_prototype_is_seen() {
             tried += 1;
         }
     }
-    assert_eq!(tried, 17 + 15 + 14 + 7);
+    assert_eq!(tried, 18 + 16 + 14 + 7);
 }
 
 #[test]
@@ -91,7 +91,7 @@ fn every_swap_in_a_signature_is_seen() {
             tried += 1;
         }
     }
-    assert_eq!(tried, 11 + 11 + 11 + 5);
+    assert_eq!(tried, 12 + 12 + 11 + 5);
 }
 
 #[test]
@@ -102,6 +102,8 @@ fn other_changes_of_the_header_are_seen() {
         ("size_t i, size_t o, const uint8_t *rule", "size_t o, size_t i, const uint8_t *rule"),
         ("const uint8_t *letters,", "uint8_t *letters,"),
         ("uint8_t *can, size_t *n,", "uint8_t *can, const size_t *n,"),
+        ("uint8_t *can, size_t *n, size_t *round,", "uint8_t *can, size_t *n,"),
+        ("uint8_t *can, size_t *round,", "uint8_t *can, uint8_t *round,"),
         ("uint16_t mask", "uint8_t mask"),
         ("uint8_t *satisfied, size_t *place", "uint8_t *satisfied, size_t place"),
         ("uint8_t airtable_follow", "size_t airtable_follow"),

@@ -18,34 +18,50 @@ fn solve(i: usize, o: usize, mode: Mode, condition: &str, rule: &str) -> Result<
     let mut game = solver::calls::game_of_given(i, o, mode, &given);
     let tree = read(condition.as_bytes(), Wording::condition(i)).unwrap();
     game.mask = solver::tree::condition_mask(&tree, i);
-    let wins = judge(&game, &space.station, &space.outside).unwrap();
+    let wins = judge(&game, 0, verdict.round, &space.station, &space.outside).unwrap();
     assert_eq!(wins, solver::game::winners(&game));
     assert_eq!(wins[0], verdict.can);
     Ok(verdict)
 }
 
 /// One reading with i = o = 1.
-fn reading(mode: Mode, condition: &str, rule: &str, can: bool, n: usize) {
-    assert_eq!(solve(1, 1, mode, condition, rule), Ok(Verdict { can, n }), "{rule} {mode:?} {condition}");
+fn reading(mode: Mode, condition: &str, rule: &str, verdict: Verdict) {
+    assert_eq!(solve(1, 1, mode, condition, rule), Ok(verdict), "{rule} {mode:?} {condition}");
 }
 
-/// A reading: the rule, the mode, the condition, whether the station can, and n.
-type Row<'a> = (&'a str, Mode, &'a str, bool, usize);
+/// "Can", with n and the round number.
+const fn can(n: usize, round: usize) -> Verdict {
+    Verdict { can: true, n, round }
+}
+
+/// "Cannot", with n.
+const fn cannot(n: usize) -> Verdict {
+    Verdict { can: false, n, round: 0 }
+}
+
+/// A reading: the rule, the mode, the condition, and the verdict.
+type Row = (String, Mode, String, Verdict);
 
 /// The readings that the specification marks as proved, in its order.
-const PROVED: [Row; 11] = [
-    ("Fp", Fair, "1", true, 3),
-    ("Fa", Fair, "1", false, 3),
-    ("Fa", Fair, "a", true, 3),
-    ("Fa", Fair, "0", true, 3),
-    ("Ga", Stable, "a", false, 3),
-    ("F(a&Xa)", Fair, "a", false, 4),
-    ("F(a&Xa)", Stable, "a", true, 4),
-    ("Xa", Fair, "1", false, 4),
-    ("Na", Fair, "1", true, 4),
-    ("a&p|!a&!p", Fair, "1", true, 3),
-    ("pUa", Fair, "a", true, 4),
+const PROVED: [(&str, Mode, &str, Verdict); 11] = [
+    ("Fp", Fair, "1", can(3, 1)),
+    ("Fa", Fair, "1", cannot(3)),
+    ("Fa", Fair, "a", can(3, 1)),
+    ("Fa", Fair, "0", can(3, 1)),
+    ("Ga", Stable, "a", cannot(3)),
+    ("F(a&Xa)", Fair, "a", cannot(4)),
+    ("F(a&Xa)", Stable, "a", can(4, 2)),
+    ("Xa", Fair, "1", cannot(4)),
+    ("Na", Fair, "1", can(4, 1)),
+    ("a&p|!a&!p", Fair, "1", can(3, 1)),
+    ("pUa", Fair, "a", can(4, 1)),
 ];
+
+/// Whether some rows are these: all of them, in order, each as it is.
+fn are_proved(rows: &[Row]) -> bool {
+    let same = |row: &Row, proved: &(&str, Mode, &str, Verdict)| (&row.0[..], row.1, &row.2[..], row.3) == *proved;
+    rows.len() == PROVED.len() && rows.iter().zip(&PROVED).all(|(row, proved)| same(row, proved))
+}
 
 /// A section of the specification, as one line.
 fn section(name: &str) -> String {
@@ -55,12 +71,12 @@ fn section(name: &str) -> String {
     rest.split("\n## ").next().unwrap().to_string()
 }
 
-/// The readings of a text such as "`Fa` cannot, 3; fair `a` can, 3. `Xa` cannot, 4.": the rule stands before its first reading, and
-/// where no mode and condition are named they are fair and `1`.
-fn readings_of(text: &str) -> Vec<(String, Mode, String, bool, usize)> {
-    let mut rows: Vec<(String, Mode, String, bool, usize)> = Vec::new();
+/// The readings of a text such as "`Fa` cannot, 3, 0; fair `a` can, 3, 1. `Xa` cannot, 4, 0.": the rule stands before its first
+/// reading, and where no mode and condition are named they are fair and `1`. The numbers are n and the round number.
+fn readings_of(text: &str) -> Vec<Row> {
+    let mut rows: Vec<Row> = Vec::new();
     for part in text.trim().trim_end_matches('.').split(['.', ';']).map(str::trim) {
-        let (told, n) = part.rsplit_once(", ").unwrap();
+        let [told, n, round] = part.split(", ").collect::<Vec<_>>()[..] else { panic!("{part}") };
         let words: Vec<&str> = told.split(' ').collect();
         let (can, words) = words.split_last().unwrap();
         let quoted = |word: &str| word.strip_prefix('`').and_then(|word| word.strip_suffix('`')).map(str::to_string);
@@ -72,13 +88,8 @@ fn readings_of(text: &str) -> Vec<(String, Mode, String, bool, usize)> {
             ["stable", condition] => (Stable, quoted(condition).unwrap()),
             _ => panic!("{part}"),
         };
-        rows.push((
-            rule,
-            mode,
-            condition,
-            [("can", true), ("cannot", false)].iter().find(|(word, _)| word == can).unwrap().1,
-            n.parse().unwrap(),
-        ));
+        let can = [("can", true), ("cannot", false)].iter().find(|(word, _)| word == can).unwrap().1;
+        rows.push((rule, mode, condition, Verdict { can, n: n.parse().unwrap(), round: round.parse().unwrap() }));
     }
     rows
 }
@@ -86,18 +97,15 @@ fn readings_of(text: &str) -> Vec<(String, Mode, String, bool, usize)> {
 #[test]
 fn the_specification_has_the_proved_readings() {
     let text = section("Readings").replace('\n', " ");
-    let (_, rest) = text.split_once(" is named: ").unwrap();
+    let (_, rest) = text.split_once(" the verdict, n and r: ").unwrap();
     let (proved, _) = rest.split_once(" These are proved.").unwrap();
-    let rows = readings_of(proved);
-    let rows: Vec<Row> =
-        rows.iter().map(|(rule, mode, condition, can, n)| (&rule[..], *mode, &condition[..], *can, *n)).collect();
-    assert_eq!(rows, PROVED);
+    assert!(are_proved(&readings_of(proved)), "{proved}");
 }
 
 #[test]
 fn proved_readings() {
-    for (rule, mode, condition, can, n) in PROVED {
-        reading(mode, condition, rule, can, n);
+    for (rule, mode, condition, verdict) in PROVED {
+        reading(mode, condition, rule, verdict);
     }
 }
 
@@ -122,14 +130,15 @@ fn text_of(list: &str) -> String {
     bytes.map(|byte| char::from(byte.parse::<u8>().unwrap())).collect()
 }
 
-/// A row as the theorem has it: `row (70 ∷ 112 ∷ []) Fair (49 ∷ []) true 3`.
-fn row_of(line: &str) -> (String, Mode, String, bool, usize) {
+/// A row as the theorem has it: `row (70 ∷ 112 ∷ []) Fair (49 ∷ []) 3 1`. The round number says whether the station can.
+fn row_of(line: &str) -> Row {
     let (rule, rest) = line.strip_prefix("row (").unwrap().split_once(") ").unwrap();
     let (mode, rest) = rest.split_once(" (").unwrap();
     let (condition, rest) = rest.split_once(") ").unwrap();
-    let (can, n) = rest.split_once(' ').unwrap();
+    let (n, round) = rest.split_once(' ').unwrap();
     let mode = [("Fair", Fair), ("Stable", Stable)].iter().find(|(word, _)| *word == mode).unwrap().1;
-    (text_of(rule), mode, text_of(condition), can.parse().unwrap(), n.parse().unwrap())
+    let (n, round) = (n.parse().unwrap(), round.parse().unwrap());
+    (text_of(rule), mode, text_of(condition), Verdict { can: round > 0, n, round })
 }
 
 /// The lines of the theorem's rows, in order, and nothing beside them.
@@ -140,22 +149,17 @@ fn row_lines(source: &str) -> Vec<&str> {
     lines
 }
 
-/// Whether these are the specification's rows: all of them, in order, each as it is.
-fn are_proved(lines: &[&str]) -> bool {
-    let rows: Vec<_> = lines.iter().map(|line| row_of(line)).collect();
-    let rows: Vec<Row> =
-        rows.iter().map(|(rule, mode, condition, can, n)| (&rule[..], *mode, &condition[..], *can, *n)).collect();
-    rows == PROVED
+/// Whether these lines are the specification's rows.
+fn have_proved(lines: &[&str]) -> bool {
+    are_proved(&lines.iter().map(|line| row_of(line)).collect::<Vec<_>>())
 }
 
-/// Each way to change one word of a row: the other mode, the other verdict, or a number one higher.
+/// Each way to change one word of a row: the other mode, or a number one higher.
 fn changes(line: &str) -> Vec<String> {
     let words: Vec<&str> = line.split(' ').collect();
     let other = |word: &str| match word {
         "Fair" => Some("Stable".into()),
         "Stable" => Some("Fair".into()),
-        "true" => Some("false".into()),
-        "false" => Some("true".into()),
         _ => {
             let number = word.trim_start_matches('(');
             number.parse::<u8>().ok().map(|byte| word.replace(number, &(byte + 1).to_string()))
@@ -168,15 +172,15 @@ fn changes(line: &str) -> Vec<String> {
 
 /// What the words of a row stand for.
 const ROW: [&str; 2] = [
-    "row rule mode condition can n = rowOf 1 1 rule mode condition can n",
-    "rowOf i o rule mode condition can n = record { inputs = i; outputs = o; rule = rule; mode = mode; condition = condition; can = can; count = n }",
+    "row rule mode condition n round = rowOf 1 1 rule mode condition n round",
+    "rowOf i o rule mode condition n round = record { inputs = i; outputs = o; rule = rule; mode = mode; condition = condition; count = n; round = round }",
 ];
 
 #[test]
 fn the_theorem_has_the_proved_readings() {
     let source = specs("Rows.antt");
     let lines = row_lines(&source);
-    assert!(are_proved(&lines));
+    assert!(have_proved(&lines));
     let reading = specs("Row.antt");
     assert!(
         ROW.iter().all(|line| reading.lines().any(|found| found == *line)),
@@ -185,18 +189,18 @@ fn the_theorem_has_the_proved_readings() {
     for k in 0..lines.len() {
         let mut fewer = lines.clone();
         fewer.remove(k);
-        assert!(!are_proved(&fewer), "without {}", lines[k]);
+        assert!(!have_proved(&fewer), "without {}", lines[k]);
         for other in k + 1..lines.len() {
             let mut swapped = lines.clone();
             swapped.swap(k, other);
-            assert!(!are_proved(&swapped), "{} for {}", lines[other], lines[k]);
+            assert!(!have_proved(&swapped), "{} for {}", lines[other], lines[k]);
         }
         let changes = changes(lines[k]);
         assert!(changes.len() > 5);
         for change in changes {
             let mut changed = lines.clone();
             changed[k] = &change;
-            assert!(!are_proved(&changed), "{change} for {}", lines[k]);
+            assert!(!have_proved(&changed), "{change} for {}", lines[k]);
         }
     }
 }
@@ -219,7 +223,7 @@ fn a_rule_with_128_states_is_served() {
 }
 
 /// The specification's printed example: the four lines, and the listing.
-const EXAMPLE: (&str, &str) = ("1 0\nfair\n1\nFa\n", "cannot 3\n0 - O 0\n1 - O 0\n2 * S 0 0\n");
+const EXAMPLE: (&str, &str) = ("1 0\nfair\n1\nFa\n", "cannot 3 0\n0 - O 0\n1 - O 0\n2 * S 0 0\n");
 
 #[test]
 fn printed_example() {
@@ -268,21 +272,37 @@ fn mistake_marked_start_taken_as_won() {
     // State 0 is marked but every step leads to state 1, which is not and stays.
     let given = Given { n: 2, moves: vec![1; 8], marks: vec![1, 0], start: 0, mask: 3 };
     let (mut station, mut outside) = (vec![7; 256], vec![7; 128]);
-    assert_eq!(solve_given(1, 1, Fair, &given, &mut station, &mut outside), Ok(false));
+    assert_eq!(solve_given(1, 1, Fair, &given, &mut station, &mut outside), Ok(cannot(2)));
     // State 0 is marked and entered again: now it counts.
     let given = Given { n: 1, moves: vec![0; 4], marks: vec![9], start: 0, mask: 3 };
-    assert_eq!(solve_given(1, 1, Fair, &given, &mut station, &mut outside), Ok(true));
+    assert_eq!(solve_given(1, 1, Fair, &given, &mut station, &mut outside), Ok(can(1, 1)));
 }
 
 #[test]
 fn mistake_station_answers_before_the_input() {
-    reading(Fair, "1", "a&p|!a&!p", true, 3);
-    reading(Stable, "1", "G(a&p|!a&!p)", true, 3);
+    reading(Fair, "1", "a&p|!a&!p", can(3, 1));
+    reading(Stable, "1", "G(a&p|!a&!p)", can(3, 1));
 }
 
 #[test]
 fn mistake_fair_read_as_stable() {
     assert_ne!(solve(1, 1, Fair, "a", "F(a&Xa)"), solve(1, 1, Stable, "a", "F(a&Xa)"));
+}
+
+#[test]
+fn mistake_steps_counted_from_one_to_the_goal_not_before_it() {
+    // The goal may be entered by the r-th step itself: one, two and three steps with a.
+    reading(Fair, "a", "Fa", can(3, 1));
+    reading(Fair, "a", "F(a&XFa)", can(5, 2));
+    reading(Fair, "a", "F(a&XF(a&XFa))", can(7, 3));
+    reading(Stable, "a", "F(a&X(a&Xa))", can(5, 3));
+}
+
+#[test]
+fn mistake_all_steps_counted_when_stable() {
+    // Two steps with a in a row satisfy the rule, and so do any three.
+    reading(Fair, "a", "F(a&X(a|F(a&XFa)))", can(7, 3));
+    reading(Stable, "a", "F(a&X(a|F(a&XFa)))", can(7, 2));
 }
 
 #[test]

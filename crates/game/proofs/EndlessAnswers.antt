@@ -25,7 +25,8 @@ use Rattle.game.specs.Tables.{Verdict}
 use Rattle.game.specs.Given.{GivenSolved}
 use Rattle.game.specs.Rule.{Buffers, Satisfied, RuleServed, RuleSolved}
 use Rattle.plays.specs.Way.{byEnvironment, meet}
-use Rattle.plays.specs.Endless.{first, Follows, Defeated, CannotEndless, Reaching}
+use Rattle.plays.specs.Round.{Reaching}
+use Rattle.plays.specs.Endless.{first, Follows, Defeated, CannotEndless}
 use Rattle.game.specs.EndlessAnswer.{Satisfying, Texts, arenaLeft, RuleEndless, GivenEndless}
 use Rattle.plays.proofs.EndlessLaws.{first-long, first-take}
 use Rattle.plays.proofs.WayLaws.{system-endless, environment-endless}

@@ -39,7 +39,7 @@ use Rattle.game.specs.Answer.{answerNumber, answerStates, verdictOf}
 use Rattle.plays.specs.declared.mode.Mode.{Mode}
 use Rattle.plays.specs.Arena.{Player, Arena, arena}
 use Rattle.plays.specs.Strategy.{environmentByte, SystemWins, EnvironmentWins}
-use Rattle.plays.specs.Endless.{Reaching}
+use Rattle.plays.specs.Round.{Reaching}
 use Rattle.game.specs.Tables.{noMove, SystemState, EnvironmentState, Tables, Verdict}
 use Rattle.game.specs.Given.{givenRefusal, GivenSolved}
 use Rattle.game.specs.Rule.{Buffers, shortBuffers, ruleRefusal, RuleSolved}

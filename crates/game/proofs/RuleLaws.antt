@@ -29,8 +29,7 @@ use Rattle.plays.specs.Arena.{Arena, arena, next, goal}
 use Rattle.plays.specs.Play.{Step, Legal, entered, standsOn, reaches, letters, Along}
 use Rattle.plays.specs.Strategy.{BySystem, ByEnvironment, SystemWins, EnvironmentWins}
 use Rattle.plays.specs.Way.{SystemWay, systemAfter, ByWay}
-use Rattle.plays.specs.Round.{RoundNumber}
-use Rattle.plays.specs.Endless.{Reaching}
+use Rattle.plays.specs.Round.{Reaching, RoundNumber}
 use Rattle.game.specs.inner.Game.{Valid}
 use Rattle.game.specs.Rule.{Satisfied, Can, Cannot}
 use Rattle.reader.proofs.BoolLaws.{on, clash}

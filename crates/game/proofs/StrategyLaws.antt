@@ -14,8 +14,7 @@ use borrow.Author.Tests.{eqb-true}
 use Rattle.automaton.specs.Limits.{stateLimit}
 use Rattle.plays.specs.Arena.{Arena}
 use Rattle.plays.specs.Strategy.{systemByte, environmentByte, SystemWins}
-use Rattle.plays.specs.Round.{RoundNumber}
-use Rattle.plays.specs.Endless.{Reaching}
+use Rattle.plays.specs.Round.{Reaching, RoundNumber}
 use Rattle.plays.specs.inner.Rank.{modeOf, Ranked, AllowedOutput, AllowedInput}
 use Rattle.game.specs.Tables.{SystemState, EnvironmentState, Tables, Verdict, noMove}
 use Rattle.game.specs.inner.Bytes.{MixedByte, SystemFilled, EnvironmentFilled}

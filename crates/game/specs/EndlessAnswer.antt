@@ -16,7 +16,8 @@ use Rattle.plays.specs.Arena.{State, Arena, arena}
 use Rattle.plays.specs.Play.{Step, letters}
 use Rattle.game.specs.Rule.{Buffers}
 use Rattle.plays.specs.Strategy.{Table}
-use Rattle.plays.specs.Endless.{Reaching, CanEndless, CannotEndless}
+use Rattle.plays.specs.Round.{Reaching}
+use Rattle.plays.specs.Endless.{CanEndless, CannotEndless}
 
 -- a beginning satisfies the rule
 abbrev pub Satisfying : Formula → Arena → List Step → Type 0

@@ -9,8 +9,7 @@ use Rattle.automaton.specs.Limits.{stateLimit}
 use Rattle.plays.specs.declared.mode.Mode.{Mode}
 use Rattle.plays.specs.Arena.{State, Input, Arena}
 use Rattle.plays.specs.Strategy.{Table, systemByte, environmentByte, SystemWins, EnvironmentWins}
-use Rattle.plays.specs.Round.{RoundNumber}
-use Rattle.plays.specs.Endless.{Reaching}
+use Rattle.plays.specs.Round.{Reaching, RoundNumber}
 
 -- the byte where a player has no move
 abbrev pub noMove : ℕ

@@ -15,8 +15,8 @@ use Rattle.plays.specs.Arena.{Arena, next, holds}
 use Rattle.plays.specs.Play.{Step, entered, standsOn, reaches, Along, count, Every, InRow}
 use Rattle.plays.specs.Strategy.{systemByte, BySystem, Assumed, SystemWins, EnvironmentWins}
 use Rattle.plays.specs.Way.{SystemWay, Outputs, byEnvironment, systemAfter, meet, ByWay}
-use Rattle.plays.specs.Round.{Does, Counterplay, RoundNumber}
-use Rattle.plays.specs.Endless.{first, Reaching}
+use Rattle.plays.specs.Round.{Reaching, Does, Counterplay, RoundNumber}
+use Rattle.plays.specs.Endless.{first}
 use Rattle.plays.specs.inner.Rank.{modeOf}
 use Rattle.plays.specs.inner.Beaten.{left, Beaten, over, forced}
 use Rattle.reader.proofs.BoolLaws.{on, clash}

@@ -16,7 +16,8 @@ use Rattle.plays.specs.Play.{Step, entered, reaches, Along}
 use Rattle.plays.specs.Strategy.{environmentByte, BySystem, ByEnvironment, SystemWins, EnvironmentWins}
 use Rattle.plays.specs.Way.{SystemWay, EnvironmentWay, Outputs, Inputs, bySystem, byEnvironment, ordered, meeting, systemAfter}
 use Rattle.plays.specs.Way.{environmentAfter, meet, ByWay}
-use Rattle.plays.specs.Endless.{first, inputs, Follows, Promised, Reaching, Kept, CanEndless, Defeated, CannotEndless}
+use Rattle.plays.specs.Round.{Reaching}
+use Rattle.plays.specs.Endless.{first, inputs, Follows, Promised, Kept, CanEndless, Defeated, CannotEndless}
 use Rattle.reader.proofs.BoolLaws.{on, clash, or-left}
 use Rattle.plays.proofs.PlayLaws.{reaches-later, take-along}
 use Rattle.plays.proofs.Determined.{system-later, environment-later}

@@ -11,7 +11,7 @@ use lib.ListN.{length}
 use Rattle.plays.specs.declared.mode.Mode.{Mode}
 use Rattle.plays.specs.declared.mode.Mode.the-variants.{Fair, Stable}
 use Rattle.plays.specs.Arena.{State, Input, Arena, holds}
-use Rattle.plays.specs.Play.{Step, reaches, Along}
+use Rattle.plays.specs.Play.{Step, Along}
 use Rattle.plays.specs.Strategy.{Table, BySystem, ByEnvironment, Assumed, Failed}
 use Rattle.plays.specs.Way.{SystemWay, EnvironmentWay, Outputs, Inputs, bySystem, byEnvironment, ordered, meet, ByWay}
 
@@ -50,10 +50,6 @@ Omniscience = (d : ℕ → Bool) → ((j : ℕ) × (d j ≡ true)) ⊎ ((j : ℕ
 abbrev pub Honoured : Mode → Arena → (ℕ → Input) → Type 0
 Honoured Fair G x = Promised Fair G x
 Honoured Stable G x = ((Promised Stable G x → ⊥) → ⊥) × (Omniscience → Promised Stable G x)
-
--- a step of the beginning enters a goal
-abbrev pub Reaching : Arena → State → List Step → Type 0
-Reaching G s p = reaches G s p ≡ true
 
 -- a beginning of the play without end is done, by which `Done` says that it does what it has to, and up to there it follows the system's strategy: so the
 -- strategy had an output wherever one was needed. It is done by the k-th step with the condition: before its last step the condition had not come k times

@@ -1,14 +1,20 @@
 -- The round number (specification, "Round number"): how many steps with the condition it takes at worst until the rule is satisfied, by the best way of
 -- answering that there is. Said over ways with any memory and over plays; nothing here speaks of how the number is found.
--- `Done p` says that a beginning of the play p does what it has to: satisfies the rule, or enters a goal of a given automaton.
+-- `Done p` says that a beginning of the play p does what it has to: it satisfies the rule (`Satisfied` of game's specs/Rule.antt), or enters a goal (`Reaching`).
 -- Assumes nothing.
 use Prim.Native.Nat.{ℕ, _<_}
+use mathlib.Core.Path.{_≡_}
+use mathlib.Core.Bool.{true}
 use mathlib.Core.List.{List}
 use Rattle.plays.specs.declared.mode.Mode.{Mode}
-use Rattle.plays.specs.Arena.{Arena}
-use Rattle.plays.specs.Play.{Step}
+use Rattle.plays.specs.Arena.{State, Arena}
+use Rattle.plays.specs.Play.{Step, reaches}
 use Rattle.plays.specs.Strategy.{Assumed}
 use Rattle.plays.specs.Way.{SystemWay, Outputs, ByWay}
+
+-- for a given automaton: a step of the play from state s enters a goal
+abbrev pub Reaching : (G : Arena) (s : State) (p : List Step) → Type 0
+Reaching G s p = reaches G s p ≡ true
 
 -- a way does with the number k: every play by it on which the condition has come k times, in a row when stable, is done
 abbrev pub Does : (mode : Mode) (G : Arena) (Done : List Step → Type 0) (k : ℕ) (ω : SystemWay) → Type 0

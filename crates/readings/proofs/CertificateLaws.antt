@@ -24,8 +24,7 @@ use Rattle.automaton.specs.Condition.{maskOf, Judges}
 use Rattle.automaton.specs.Discovery.{numberOfStates}
 use Rattle.automaton.proofs.ConditionLaws.{mask-judges}
 use Rattle.plays.specs.Arena.{Arena}
-use Rattle.plays.specs.Round.{RoundNumber}
-use Rattle.plays.specs.Endless.{Reaching}
+use Rattle.plays.specs.Round.{Reaching, RoundNumber}
 use Rattle.plays.specs.inner.Rank.{isFair}
 use Rattle.plays.proofs.ModeLaws.{same-mode}
 use Rattle.readings.specs.Lists.{transitionsOf, flagsOf}

@@ -24,8 +24,7 @@ use Rattle.plays.specs.Arena.{Arena, arena, next, goal, holds}
 use Rattle.plays.specs.inner.Rank.{modeOf, judged, Safe, Falls, AllowedOutput, AllowedInput}
 use Rattle.plays.specs.inner.Beaten.{left, Beaten, over, forced}
 use Rattle.plays.specs.Strategy.{systemByte, environmentByte, SystemWins, EnvironmentWins}
-use Rattle.plays.specs.Round.{RoundNumber}
-use Rattle.plays.specs.Endless.{Reaching}
+use Rattle.plays.specs.Round.{Reaching, RoundNumber}
 use Rattle.game.proofs.IndexLaws.{letter-below}
 use Rattle.plays.proofs.RankLaws.{system-wins, environment-wins}
 use Rattle.plays.proofs.BeatenLaws.{beaten-limit}

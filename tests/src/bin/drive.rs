@@ -13,6 +13,7 @@ use solver::large::LARGE;
 use solver::listing::{airtable, head, lines, tables_of};
 use solver::makers::{any_condition, any_text, damaged, good_condition, rule_text};
 use solver::reader::read;
+use solver::round::round_number;
 use solver::tree::condition_mask;
 use solver::wording::Wording;
 use std::collections::BTreeMap;
@@ -221,9 +222,10 @@ fn compare(bytes: &[u8], text: &[u8], error: &[u8]) -> Result<String, String> {
     let mask = condition_mask(&condition, lines.i);
     let game = game_of(&automaton, lines.i, lines.o, mask, lines.mode);
     let winners = solver::game::winners(&game);
-    let head = head(Verdict { can: winners[0], n: game.n });
+    let round = round_number(&game, &winners, 0);
+    let head = head(Verdict { can: winners[0], n: game.n, round });
     let (station, outside) = tables_of(text, &head, lines.i, &game.goals)?;
-    if judge(&game, &station, &outside)? != winners {
+    if judge(&game, 0, round, &station, &outside)? != winners {
         return Err("the winners differ".into());
     }
     Ok(head.split(' ').next().unwrap_or("").to_string())

@@ -11,8 +11,12 @@ pub struct Told {
     pub number: u8,
     pub answer: u8,
     pub n: usize,
+    pub round: usize,
     pub place: usize,
 }
+
+/// The values before a call, which no call would hand back by itself.
+const NOTHING: Told = Told { number: 0, answer: ODD, n: SENTINEL, round: SENTINEL, place: SENTINEL };
 
 /// What the follower handed back.
 #[derive(Clone, Copy, Debug)]
@@ -59,7 +63,7 @@ pub fn solve_rule(
     station: &mut Lent,
     outside: &mut Lent,
 ) -> Told {
-    let mut told = Told { number: 0, answer: ODD, n: SENTINEL, place: SENTINEL };
+    let mut told = NOTHING;
     told.number = unsafe {
         airtable_solve_rule(
             i,
@@ -79,6 +83,7 @@ pub fn solve_rule(
             outside.told,
             &mut told.answer,
             &mut told.n,
+            &mut told.round,
             &mut told.place,
         )
     };
@@ -99,7 +104,7 @@ pub fn solve_given(
     station: &mut Lent,
     outside: &mut Lent,
 ) -> Told {
-    let mut told = Told { number: 0, answer: ODD, n: SENTINEL, place: SENTINEL };
+    let mut told = NOTHING;
     told.number = unsafe {
         airtable_solve_given(
             i,
@@ -117,6 +122,7 @@ pub fn solve_given(
             outside.pointer(),
             outside.told,
             &mut told.answer,
+            &mut told.round,
             &mut told.place,
         )
     };
@@ -161,7 +167,7 @@ pub fn follow(
 
 /// The library's trial.
 pub fn try_rule(i: usize, o: usize, rule: &[u8], letters: &[u8]) -> Told {
-    let mut told = Told { number: 0, answer: ODD, n: SENTINEL, place: SENTINEL };
+    let mut told = NOTHING;
     told.number = unsafe {
         airtable_try_rule(
             i,

@@ -2,8 +2,10 @@
 //! the choice of signatures and lengths, the tally, and the printing of bytes.
 
 use crate::capi::Told;
-use solver::calls::Refusal;
+use solver::calls::{Refusal, Verdict};
 use solver::chance::Chance;
+use solver::game::Game;
+use solver::round::is_mixed;
 use solver::Mode;
 use std::collections::BTreeMap;
 
@@ -67,6 +69,30 @@ impl Tally {
     /// Counts one case of a kind.
     pub fn count(&mut self, what: String) {
         *self.counts.entry(what).or_insert(0) += 1;
+    }
+}
+
+impl Tally {
+    /// Counts a served call, and what its round number is.
+    pub fn count_served(&mut self, call: &str, game: &Game, verdict: Verdict, wins: &[bool]) {
+        let Verdict { can, n, round } = verdict;
+        if !can {
+            return self.count(format!("{call}: cannot"));
+        }
+        let mode = if game.mode == Mode::Fair { "fair" } else { "stable" };
+        let mixed = is_mixed(game, wins, round);
+        self.count(format!("{call}: can"));
+        let kinds = [
+            ("above 1", round > 1),
+            ("above 1 and below n", round > 1 && round < n),
+            ("above 10", round > 10),
+            ("n, above 1", round == n && n > 1),
+            ("for a table by two numbers", mixed),
+            ("above 1 for a table by two numbers", mixed && round > 1),
+        ];
+        for (kind, _) in kinds.iter().filter(|(_, holds)| *holds) {
+            self.count(format!("{call}: can, {mode}, round number {kind}"));
+        }
     }
 }
 

@@ -3,10 +3,10 @@
 
 use crate::capi::{self, mode_byte};
 use crate::common::*;
-use solver::calls::{game_of_given, solve_given, Given, Refusal};
+use solver::calls::{game_of_given, solve_given, Given, Refusal, Verdict};
 use solver::chance::Chance;
 use solver::judge::judge_buffers;
-use solver::makers::game_shape;
+use solver::makers::{game_shape, round_shape};
 use solver::Mode;
 
 /// One call for a given automaton.
@@ -31,12 +31,17 @@ impl Case {
         let mask = (chance.draw() & ((1u64 << (1 << i)) - 1)) as u16;
         let mask = if chance.one_in(5) { chance.pick(&[0, ((1u32 << (1 << i)) - 1) as u16]) } else { mask };
         let start = chance.below(n);
+        Case::on(chance, (i, o), Given { n, moves, marks, start, mask })
+    }
+
+    /// A case on an automaton, with buffers that are long enough.
+    fn on(chance: &mut Chance, (i, o): (usize, usize), given: Given) -> Case {
         let (station, outside) = (enough(chance, 128 << i), enough(chance, 128));
         Case {
             i,
             o,
             mode: any_mode(chance),
-            given: Given { n, moves, marks, start, mask },
+            given,
             station: Lent::new(chance, station),
             outside: Lent::new(chance, outside),
         }
@@ -64,32 +69,34 @@ impl Case {
         let wanted = solve_given(self.i, self.o, self.mode, &self.given, &mut station, &mut outside);
         check_number(&told, wanted.map(|_| ()))?;
         match wanted {
-            Err(refusal) => self.refused(refusal, tally),
-            Ok(can) => {
-                tally.count(format!("given: {}", if can { "can" } else { "cannot" }));
-                check_answer(told.answer, can)?;
-                self.judged(told.answer)
+            Err(refusal) => self.refused(told.round, refusal, tally),
+            Ok(verdict) => {
+                check_answer(told.answer, verdict.can)?;
+                check_value("round", told.round, verdict.round)?;
+                self.judged(verdict, tally)
             }
         }
     }
 
     /// After a refusal the tables are untouched.
-    fn refused(&self, refusal: Refusal, tally: &mut Tally) -> Result<(), String> {
+    fn refused(&self, round: usize, refusal: Refusal, tally: &mut Tally) -> Result<(), String> {
         tally.count(format!("given: refused {:2}", refusal.number));
+        check_value("round of a refused call", round, 0)?;
         self.station.untouched("station")?;
         self.outside.untouched("outside")
     }
 
     /// Has the tables judged, and the winners compared with the fixpoints.
-    fn judged(&self, answer: u8) -> Result<(), String> {
+    fn judged(&self, verdict: Verdict, tally: &mut Tally) -> Result<(), String> {
         let game = game_of_given(self.i, self.o, self.mode, &self.given);
         let station = (&self.station.bytes[..], &self.station.before[..]);
         let outside = (&self.outside.bytes[..], &self.outside.before[..]);
-        let wins = judge_buffers(&game, station, outside)?;
+        let wins = judge_buffers(&game, (self.given.start, verdict.round), station, outside)?;
         if wins != solver::game::winners(&game) {
             return Err("the winners differ from the fixpoints, though the judge let the tables pass".into());
         }
-        check_answer(answer, wins[self.given.start])
+        tally.count_served("given", &game, verdict, &wins);
+        check_answer(verdict.can as u8, wins[self.given.start])
     }
 
     /// The case in a form that can be typed in again.
@@ -122,6 +129,16 @@ pub fn large(chance: &mut Chance, tally: &mut Tally) -> Result<(), String> {
     let n = if chance.one_in(3) { chance.between(126, 128) } else { chance.between(30, 128) };
     let (i, o) = (chance.below(5), chance.below(5));
     Case::good(chance, i, o, n).run(chance, tally)
+}
+
+/// Automata on which round numbers are large and differ from state to state; mostly small ones, of which most states are tried.
+pub fn rounds(chance: &mut Chance, tally: &mut Tally) -> Result<(), String> {
+    let most = chance.pick(&[4, 6, 8, 8, 12, 20, 128]);
+    let n = chance.between(1, most);
+    let (i, o) = if n > 20 { (chance.below(5), chance.below(5)) } else { (chance.below(3), chance.below(3)) };
+    let (moves, marks, mask) = round_shape(chance, i, o, n);
+    let start = chance.below(n);
+    Case::on(chance, (i, o), Given { n, moves, marks, start, mask }).run(chance, tally)
 }
 
 /// Puts a move of n or more at the first, the last, some place, several, or just beyond the used part.

@@ -35,7 +35,7 @@ enum Run {
 
 use Run::*;
 
-const KINDS: [Kind; 19] = [
+const KINDS: [Kind; 20] = [
     Kind { name: "readings", count: sources::READINGS_COUNT, run: Listed(sources::reading) },
     Kind { name: "published", count: sources::PUBLISHED_COUNT, run: Listed(sources::published) },
     Kind { name: "trial-short", count: listed::SHORT_TEXTS, run: Listed(listed::short_text) },
@@ -55,6 +55,7 @@ const KINDS: [Kind; 19] = [
     Kind { name: "given-faults", count: 40_000, run: Random(givens::faults) },
     Kind { name: "follow-plays", count: 10_000, run: Random(follows::plays) },
     Kind { name: "follow-random", count: 80_000, run: Random(follows::random) },
+    Kind { name: "given-rounds", count: 30_000, run: Random(givens::rounds) },
 ];
 
 /// Where the run stands, for the message after a crash inside the library.

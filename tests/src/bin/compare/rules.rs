@@ -89,14 +89,15 @@ impl Case {
     fn refused(&self, told: Told, refusal: Refusal, tally: &mut Tally) -> Result<(), String> {
         tally.count(format!("rule: refused {:2}", refusal.number));
         check_value("n of a refused rule", told.n, 0)?;
+        check_value("round of a refused rule", told.round, 0)?;
         self.station.untouched("station")?;
         self.outside.untouched("outside")
     }
 
-    /// After a served call n and the verdict are compared and the tables judged.
+    /// After a served call n, the verdict and the round number are compared and the tables judged.
     fn served(&self, told: Told, verdict: Verdict, buffers: &Buffers, tally: &mut Tally) -> Result<(), String> {
-        tally.count(format!("rule: {}", if verdict.can { "can" } else { "cannot" }));
         check_value("n", told.n, verdict.n)?;
+        check_value("round", told.round, verdict.round)?;
         check_answer(told.answer, verdict.can)?;
         let tree = read(&self.condition, Wording::condition(self.i)).unwrap();
         let mask = condition_mask(&tree, self.i);
@@ -105,10 +106,11 @@ impl Case {
         let game = game_of_given(self.i, self.o, self.mode, &given);
         let station = (&self.station.bytes[..], &self.station.before[..]);
         let outside = (&self.outside.bytes[..], &self.outside.before[..]);
-        let wins = judge_buffers(&game, station, outside)?;
+        let wins = judge_buffers(&game, (0, verdict.round), station, outside)?;
         if wins != solver::game::winners(&game) {
             return Err("the winners differ from the fixpoints, though the judge let the tables pass".into());
         }
+        tally.count_served("rule", &game, verdict, &wins);
         check_answer(told.answer, wins[0])
     }
 

@@ -8,22 +8,22 @@ use solver::calls::{try_rule, Verdict};
 use solver::chance::Chance;
 use solver::Mode;
 
-/// Mode, condition, rule, and verdict with n; none where it is refused or the verdict is open.
-type Reading = (Mode, &'static str, &'static str, Option<(bool, usize)>);
+/// Mode, condition, rule, and verdict with n and the round number; none where it is refused or the verdict is open.
+type Reading = (Mode, &'static str, &'static str, Option<(bool, usize, usize)>);
 
 /// The readings with i = o = 1.
 const READINGS: [Reading; 14] = [
-    (Mode::Fair, "1", "Fp", Some((true, 3))),
-    (Mode::Fair, "1", "Fa", Some((false, 3))),
-    (Mode::Fair, "a", "Fa", Some((true, 3))),
-    (Mode::Fair, "0", "Fa", Some((true, 3))),
-    (Mode::Stable, "a", "Ga", Some((false, 3))),
-    (Mode::Fair, "a", "F(a&Xa)", Some((false, 4))),
-    (Mode::Stable, "a", "F(a&Xa)", Some((true, 4))),
-    (Mode::Fair, "1", "Xa", Some((false, 4))),
-    (Mode::Fair, "1", "Na", Some((true, 4))),
-    (Mode::Fair, "1", "a&p|!a&!p", Some((true, 3))),
-    (Mode::Fair, "a", "pUa", Some((true, 4))),
+    (Mode::Fair, "1", "Fp", Some((true, 3, 1))),
+    (Mode::Fair, "1", "Fa", Some((false, 3, 0))),
+    (Mode::Fair, "a", "Fa", Some((true, 3, 1))),
+    (Mode::Fair, "0", "Fa", Some((true, 3, 1))),
+    (Mode::Stable, "a", "Ga", Some((false, 3, 0))),
+    (Mode::Fair, "a", "F(a&Xa)", Some((false, 4, 0))),
+    (Mode::Stable, "a", "F(a&Xa)", Some((true, 4, 2))),
+    (Mode::Fair, "1", "Xa", Some((false, 4, 0))),
+    (Mode::Fair, "1", "Na", Some((true, 4, 1))),
+    (Mode::Fair, "1", "a&p|!a&!p", Some((true, 3, 1))),
+    (Mode::Fair, "a", "pUa", Some((true, 4, 1))),
     (Mode::Fair, "1", "XXXXXXa", None),
     (Mode::Fair, "1", "", None),
     (Mode::Fair, "1", "XXXXXa", None),
@@ -47,14 +47,18 @@ fn stated(
     mode: Mode,
     condition: &str,
     rule: &str,
-    wanted: Option<(bool, usize)>,
+    wanted: Option<(bool, usize, Option<usize>)>,
     tally: &mut Tally,
 ) -> Result<Option<Verdict>, String> {
     let mut case = Case::new(chance, (i, o), rule.into(), condition.into(), enough);
     case.mode = mode;
     let verdict = case.compare(1, tally).map_err(|what| case.print(what))?;
     match (wanted, verdict) {
-        (Some((can, n)), Some(told)) if told.can == can && told.n == n => Ok(verdict),
+        (Some((can, n, round)), Some(told))
+            if (told.can, told.n) == (can, n) && round.is_none_or(|r| told.round == r) =>
+        {
+            Ok(verdict)
+        }
         (None, _) => Ok(verdict),
         _ => Err(case.print(format!("the source states {wanted:?}"))),
     }
@@ -67,6 +71,7 @@ pub fn reading(case: u64, chance: &mut Chance, tally: &mut Tally) -> Result<(), 
         let verdict = stated(chance, (4, 4), Mode::Fair, "1", wide, None, tally)?;
         return if verdict.is_none() { Ok(()) } else { Err("the rule with 169 states was served".into()) };
     };
+    let wanted = wanted.map(|(can, n, round)| (can, n, Some(round)));
     let verdict = stated(chance, (1, 1), mode, condition, rule, wanted, tally)?;
     let served = rule != "XXXXXXa" && !rule.is_empty();
     if verdict.is_some() == served {
@@ -87,7 +92,7 @@ pub fn published(case: u64, chance: &mut Chance, tally: &mut Tally) -> Result<()
     let fits = number(9) <= 5 && number(10) <= 64 && number(8) <= 128;
     match row[7] {
         "can" | "cannot" if fits => {
-            stated(chance, size, mode, row[4], row[5], Some((row[7] == "can", number(8))), tally).map(|_| ())
+            stated(chance, size, mode, row[4], row[5], Some((row[7] == "can", number(8), None)), tally).map(|_| ())
         }
         "can" | "cannot" => stated(chance, size, mode, row[4], row[5], None, tally).map(|_| ()),
         answer => valid(size, row[5], answer == "valid", tally),

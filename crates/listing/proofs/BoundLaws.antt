@@ -11,7 +11,7 @@ use lib.Dec.{ltb}
 use lib.ListN.{length, take, drop}
 use lib.Pow.{pow-mono, pow-pos}
 use lib.Seq.{take-all, take-append-seam}
-use borrow.Author.Tests.{ne-eqb, ltb-false}
+use borrow.Author.Tests.{ltb-false}
 use Rattle.plays.specs.declared.mode.Mode.{Mode}
 use Rattle.reader.specs.declared.reading.Reading.{Reading}
 use Rattle.reader.specs.declared.reading.Reading.the-variants.{Good, TooLong, Bad, TooManyNodes, TooManyOperators}
@@ -31,6 +31,7 @@ use Rattle.plays.proofs.RoundLaws.{round-bound}
 use Rattle.game.specs.declared.answer.Answer.{Answer}
 use Rattle.game.specs.Answer.{verdictOf}
 use Rattle.game.specs.Rule.{Buffers, shortBuffers, ruleRefusal, RuleServed, RuleSolved}
+use Rattle.game.proofs.AnswerLaws.{verdict-can}
 use Rattle.game.proofs.RuleLaws.{some-state}
 use Rattle.listing.specs.Listing.{listing, stateLine, canWord, cannotWord}
 use Rattle.listing.specs.Promise.{outputSize, Prints, Listed}
@@ -128,7 +129,7 @@ module _ {mode : Mode} {i o : ℕ} {rule condition : List ℕ} {old new : Buffer
         verdict-length (2 ^ i) (new .accepting) (new .system) (new .environment) cannotWord (m .states) 0 (omega arith) few-states (omega arith)
         (served-line v)
     served-length (suc k) v =
-        rw (ne-eqb (suc k) 0 (λ e. omega arith))
+        rw (verdict-can (m .states) (suc k) (λ e. omega arith))
         (verdict-length (2 ^ i) (new .accepting) (new .system) (new .environment) canWord (m .states) (suc k) (omega arith) few-states
         (served-round (suc k) v) (served-line v))
 

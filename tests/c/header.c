@@ -137,6 +137,11 @@ static void rounds(void)
     CHECK(solve(1, 1, AIRTABLE_STABLE, "F(a&X(a|F(a&XFa)))", "a"), AIRTABLE_SERVED);
     CHECK(n, 7);
     CHECK(round_number, 2);
+    /* By p in the first step two closed contacts in a row do, by !p three. */
+    CHECK(solve(1, 1, AIRTABLE_STABLE, "!p&F(a&X(a&Xa))|p&F(a&Xa)", "a"), AIRTABLE_SERVED);
+    CHECK(n, 7);
+    CHECK(round_number, 2);
+    CHECK(memcmp(station, "\1\1", 2), 0);
 }
 
 /* All that a refused rule call may leave: the moves apart, the buffers are as they were. */

@@ -306,6 +306,15 @@ fn mistake_all_steps_counted_when_stable() {
 }
 
 #[test]
+fn mistake_table_that_takes_as_long_as_n_allows() {
+    // By p in the first step the rule asks for two steps with a in a row, by !p for three; both are fewer than n.
+    let rule = "!p&F(a&X(a&Xa))|p&F(a&Xa)";
+    reading(Stable, "a", rule, can(7, 2));
+    let listing = airtable(format!("1 1\nstable\na\n{rule}\n").as_bytes());
+    assert!(listing.starts_with(b"can 7 2\n0 - S 1 1\n"), "{}", listing.escape_ascii());
+}
+
+#[test]
 fn program_refusals() {
     let told = |bytes: &[u8]| String::from_utf8(airtable(bytes)).unwrap();
     assert_eq!(told(b""), "refused 14 0\n");

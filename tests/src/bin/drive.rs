@@ -21,7 +21,7 @@ use std::fs::File;
 use std::io::Write;
 use std::process::{Command, Output, Stdio};
 
-/// Inputs by hand: the readings of the specification, the printed example, shapes that are no four lines.
+/// Inputs by hand: the readings of the specification, the printed example, round numbers, shapes that are no four lines.
 const BY_HAND: &[&[u8]] = &[
     b"1 0\nfair\n1\nFa\n",
     b"1 1\nfair\n1\nFp\n",
@@ -35,6 +35,11 @@ const BY_HAND: &[&[u8]] = &[
     b"1 1\nfair\n1\nNa\n",
     b"1 1\nfair\n1\na&p|!a&!p\n",
     b"1 1\nfair\na\npUa\n",
+    b"1 1\nfair\na\nF(a&XFa)\n",
+    b"1 1\nfair\na\nF(a&X(a|F(a&XFa)))\n",
+    b"1 1\nstable\na\nF(a&X(a|F(a&XFa)))\n",
+    b"1 1\nstable\na\n!p&F(a&X(a&Xa))|p&F(a&Xa)\n",
+    b"1 2\nstable\na\n(qUp)RX(!p)&(!q)\n",
     b"1 1\nfair\n1\nXXXXXa\n",
     b"1 1\nfair\n1\nXXXXXXa\n",
     b"1 1\nfair\n1\n\n",

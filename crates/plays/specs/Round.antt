@@ -1,6 +1,7 @@
 -- The round number (specification, "Round number"): how many steps with the condition it takes at worst until the rule is satisfied, by the best way of
 -- answering that there is. Said over ways with any memory and over plays; nothing here speaks of how the number is found.
--- `Done p` says that a beginning of the play p does what it has to: it satisfies the rule (`Satisfied` of game's specs/Rule.antt), or enters a goal (`Reaching`).
+-- `Done p` says that a beginning of the play p does what it has to: for a rule, it satisfies the rule (`Satisfied`, in the specs of game); for a given
+-- automaton, it enters a goal (`Reaching`).
 -- Assumes nothing.
 use Prim.Native.Nat.{ℕ, _<_}
 use mathlib.Core.Path.{_≡_}

@@ -25,7 +25,8 @@ Unranked outer inner s = (getD outer s 0 ≡ 0) × (getD inner s 0 ≡ 0)
 abbrev pub Apart : List ℕ → List ℕ → Type 0
 Apart outer inner = (t : ℕ) → 0 < getD outer t 0 → getD inner t 0 ≡ 0
 
--- the test on the state t that a step with input x enters: a goal, or else a state that is won where x has the condition, and one that is safe where it lacks it
+-- the test on the state t that a step with input x enters: a goal, or else a state that is won where x has the condition, and one that is safe where it has
+-- not
 unfoldable pub servingAt : (G : Arena) (won safe : State → Bool) (x : Input) (t : State) → Bool
 servingAt G won safe x t = goal G t || cond (holds G x) (won t) (safe t)
 

@@ -9,8 +9,9 @@ use native.Mathlib.Omega.{arith}
 use lib.ListN.{length, getD, set}
 use lib.Seq.{getD-set-same, getD-set-other}
 use borrow.Author.Tests.{eq-eqb, ne-eqb, lt-ltb, le-ltb}
+use Rattle.automaton.specs.Limits.{stateLimit}
 use Rattle.plays.specs.Arena.{Arena, next, goal, holds}
-use Rattle.plays.specs.inner.Rank.{Ranked}
+use Rattle.plays.specs.inner.Rank.{Forces, Falls, Ranked}
 use Rattle.plays.specs.inner.Beaten.{Beaten, forced}
 use Rattle.game.specs.inner.Game.{Valid}
 use Rattle.game.specs.inner.Solver.{
@@ -40,23 +41,23 @@ raised-low l k h = rw (lt-ltb k l h)
 pub raised-high : (l k : ℕ) → l ≤ k → raisedNeed l k ≡ 0
 raised-high l k h = rw (le-ltb k l h)
 
-pub height-none : (l k : ℕ) → k ≡ 0 → heightOf l k ≡ l + 1
-height-none l k e = rw (eq-eqb k 0 e)
+pub height-none : (k : ℕ) → k ≡ 0 → heightOf k ≡ stateLimit + 1
+height-none k e = rw (eq-eqb k 0 e)
 
-pub height-some : (l k : ℕ) → 0 < k → heightOf l k ≡ k
-height-some l k p = rw (ne-eqb k 0 (λ e. let z : ⊥ = omega arith in z))
+pub height-some : (k : ℕ) → 0 < k → heightOf k ≡ k
+height-some k p = rw (ne-eqb k 0 (λ e. let z : ⊥ = omega arith in z))
 
-height-dropped : (l k : ℕ) → 0 < k → k ≤ l → heightOf l k < heightOf l 0
-height-dropped l k p small = omega (arith, height-some l k p, height-none l 0 refl)
+height-dropped : (k : ℕ) → 0 < k → k ≤ stateLimit → heightOf k < heightOf 0
+height-dropped k p small = omega (arith, height-some k p, height-none 0 refl)
 
 -- the next need is higher
-height-raised : (l k : ℕ) → 0 < k → k ≤ l → heightOf l k < heightOf l (raisedNeed l k)
+height-raised : (l k : ℕ) → 0 < k → k ≤ stateLimit → heightOf k < heightOf (raisedNeed l k)
 height-raised l k p small =
     below-or k l
     (λ h.
     let e = raised-low l k h in
-    omega (arith, height-some l k p, height-some l (raisedNeed l k) (omega arith)))
-    (λ h. omega (arith, height-some l k p, height-none l (raisedNeed l k) (raised-high l k h)))
+    omega (arith, height-some k p, height-some (raisedNeed l k) (omega arith)))
+    (λ h. omega (arith, height-some k p, height-none (raisedNeed l k) (raised-high l k h)))
 
 -- ---- a look at one state
 
@@ -76,30 +77,49 @@ look-none e =
       lifts = λ d. absurd (d (sym e));
     }
 
--- a state with a need, by the first input that no output serves
+-- a need above the limit is dropped: with less the system is beaten
+pub look-above : {G : Arena} {l : ℕ} {needs : List ℕ} {s : ℕ} → Bounds G l needs → s < G .states → l < getD needs s 0 → NextNeed G l needs s 0
+look-above {needs = needs} {s} b hs above =
+    let some : 0 < getD needs s 0 = omega arith in
+    record {
+      stands = λ e. absurd (let z : ⊥ = omega arith in z);
+      lifts = λ _.
+          record {
+            some = some;
+            small = omega arith;
+            higher = height-dropped (getD needs s 0) some (b .small s);
+            beaten = λ k kl _. b .beaten s k hs kl (λ _. omega arith);
+          };
+    }
+
+-- a state with a need of at most the limit, by the first input that no output serves
 module _ {G : Arena} (v : Valid G) {l : ℕ} {needs : List ℕ} {s r : ℕ} (b : Bounds G l needs) (hs : s < G .states) (some : 0 < getD needs s 0)
-    (u : FirstUnserved G (rankedBelow (getD needs s 0) needs) (safeBelow true (l + 1) needs) s r) where
+    (within : getD needs s 0 ≤ l) (u : FirstUnserved G (rankedBelow (getD needs s 0) needs) (safeBelow true (l + 1) needs) s r) where
   abbrev own : ℕ
   own = getD needs s 0
+
+  -- an output that serves an input lets the needs fall
+  falls : G .inputs ≤ r → Forces G true s (Falls G true false needs s)
+  falls all x h =
+      let w = served-at u all x h in
+      let t = next G s x (w .0) in (
+        w .0,
+        w .1,
+        ⊎-elim
+            (λ g. _⊎_.inl g)
+            (λ d. _⊎_.inr (on (holds G x)
+            (λ e. let q = ranked-below own needs t (rw e at (d .1)) in (q .0, (λ _. q .1), (λ z. absurd (mathlib.Core.Bool.false≢true z))))
+            (λ e.
+            let q = ranked-below (l + 1) needs t (sym (beq-true (rankedBelow (l + 1) needs t)) ∙ rw e at (d .1)) in
+            (q .0, (λ z. clash (holds G x) z e), (λ z. absurd (mathlib.Core.Bool.false≢true z))))))
+            (w .2),
+      )
 
   -- all inputs are served: the need stands
   pub look-stands : G .inputs ≤ r → NextNeed G l needs s own
   look-stands all =
       record {
-        stands = λ _ _ x h.
-            let w = served-at u all x h in
-            let t = next G s x (w .0) in (
-              w .0,
-              w .1,
-              ⊎-elim
-                  (λ g. _⊎_.inl g)
-                  (λ d. _⊎_.inr (on (holds G x)
-                  (λ e. let q = ranked-below own needs t (rw e at (d .1)) in (q .0, (λ _. q .1), (λ z. absurd (mathlib.Core.Bool.false≢true z))))
-                  (λ e.
-                  let q = ranked-below (l + 1) needs t (sym (beq-true (rankedBelow (l + 1) needs t)) ∙ rw e at (d .1)) in
-                  (q .0, (λ z. clash (holds G x) z e), (λ z. absurd (mathlib.Core.Bool.false≢true z))))))
-                  (w .2),
-            );
+        stands = λ _ _. (within, falls all);
         lifts = λ d. absurd (d refl);
       }
 
@@ -111,7 +131,6 @@ module _ {G : Arena} (v : Valid G) {l : ℕ} {needs : List ℕ} {s r : ℕ} (b :
     module _ (has : holds G r ≡ true) where
       beaten-own : Beaten false G l s own
       beaten-own =
-          let small = b .small s in
           forced {k = own} r one (λ y h. unserved-at u one y h .0)
           (λ y h.
           let t = next G s r y in
@@ -127,15 +146,15 @@ module _ {G : Arena} (v : Valid G) {l : ℕ} {needs : List ℕ} {s r : ℕ} (b :
           (λ e. subst (λ (i : ℕ). Beaten false G l s i) (sym e) beaten-own)
           (λ d. b .beaten s k hs kl (λ p. omega arith))
 
-      raised-small : raisedNeed l own ≤ l
-      raised-small = below-or own l (λ h. omega (arith, raised-low l own h)) (λ h. omega (arith, raised-high l own h))
+      raised-small : l ≤ stateLimit → raisedNeed l own ≤ stateLimit
+      raised-small le = below-or own l (λ h. omega (arith, raised-low l own h)) (λ h. omega (arith, raised-high l own h))
 
-      pub look-raises : NextNeed G l needs s (raisedNeed l own)
-      look-raises =
+      pub look-raises : l ≤ stateLimit → NextNeed G l needs s (raisedNeed l own)
+      look-raises le =
           let up = height-raised l own some (b .small s) in
           record {
-            stands = λ e. let q = ap (heightOf l) e in absurd (let z : ⊥ = omega arith in z);
-            lifts = λ _. record { some = some; small = raised-small; higher = up; beaten = raised-beaten };
+            stands = λ e. let q = ap heightOf e in absurd (let z : ⊥ = omega arith in z);
+            lifts = λ _. record { some = some; small = raised-small le; higher = up; beaten = raised-beaten };
           }
 
     -- one without it: each output leaves the system beaten with the limit, so it is beaten with every budget
@@ -152,7 +171,7 @@ module _ {G : Arena} (v : Valid G) {l : ℕ} {needs : List ℕ} {s r : ℕ} (b :
       look-drops =
           record {
             stands = λ e. absurd (let z : ⊥ = omega arith in z);
-            lifts = λ _. record { some = some; small = omega arith; higher = height-dropped l own some (b .small s); beaten = λ k _ _. beaten-all k };
+            lifts = λ _. record { some = some; small = omega arith; higher = height-dropped own some (b .small s); beaten = λ k _ _. beaten-all k };
           }
 
 -- ---- the needs with one state lifted
@@ -190,14 +209,14 @@ module _ {G : Arena} {l : ℕ} {needs : List ℕ} {s w : ℕ} (b : Bounds G l ne
       (λ e. subst (λ (i : ℕ). 0 < getD needs i 0) (sym e) (high .some))
       (λ d. let q = other t d in omega arith)
 
-  lifted-here : heightOf l (getD needs s 0) < heightOf l (getD new s 0)
+  lifted-here : heightOf (getD needs s 0) < heightOf (getD new s 0)
   lifted-here = rw (same s refl) (high .higher)
 
-  lifted-rises : (t : ℕ) → heightOf l (getD needs t 0) ≤ heightOf l (getD new t 0)
+  lifted-rises : (t : ℕ) → heightOf (getD needs t 0) ≤ heightOf (getD new t 0)
   lifted-rises t =
       same-or t s
-      (λ e. subst (λ (i : ℕ). heightOf l (getD needs i 0) ≤ heightOf l (getD new i 0)) (sym e) (omega (arith, lifted-here)))
-      (λ d. omega (arith, ap (heightOf l) (other t d)))
+      (λ e. subst (λ (i : ℕ). heightOf (getD needs i 0) ≤ heightOf (getD new i 0)) (sym e) (omega (arith, lifted-here)))
+      (λ d. omega (arith, ap heightOf (other t d)))
 
 -- ---- a sweep
 
@@ -215,14 +234,14 @@ sweep-starts b =
 -- one more state
 module _ {G : Arena} {l : ℕ} {old needs : List ℕ} {k : ℕ} {lifted : Bool} (so-far : Swept G l old needs k lifted) where
   -- whose need stands
-  pub sweep-stays : Stands G needs k → Swept G l old needs (k + 1) lifted
+  pub sweep-stays : Stands G l needs k → Swept G l old needs (k + 1) lifted
   sweep-stays here =
       record {
         bounds = so-far .bounds;
         kept = so-far .kept;
         rises = so-far .rises;
         more = λ e. let w = so-far .more e in (w .0, omega arith, w .2);
-        stand = λ e s h. same-or s k (λ q. subst (λ (i : ℕ). Stands G needs i) (sym q) here) (λ d. so-far .stand e s (omega arith));
+        stand = λ e s h. same-or s k (λ q. subst (λ (i : ℕ). Stands G l needs i) (sym q) here) (λ d. so-far .stand e s (omega arith));
       }
 
   -- whose need is lifted
@@ -244,6 +263,10 @@ module _ {G : Arena} {l : ℕ} {old needs : List ℕ} {k : ℕ} {lifted : Bool} 
 -- after a sweep that lifted none the needs are a certificate
 pub sweeps-end : {G : Arena} {l : ℕ} {old needs : List ℕ} {lifted : Bool} → Swept G l old needs (G .states) lifted → lifted ≡ false
     → Ranked G true false l needs
-sweeps-end last e =
+sweeps-end {needs = needs} last e =
     let within = last .bounds .within in
-    record { within = within; bound = last .bounds .small; forced = λ s p. last .stand e s (within s p) p }
+    record {
+      within = within;
+      bound = λ t. zero-or (getD needs t 0) (λ z. omega arith) (λ p. last .stand e t (within t p) p .0);
+      forced = λ s p. last .stand e s (within s p) p .1;
+    }

@@ -13,7 +13,7 @@ use Rattle.plays.specs.inner.Rank.{Ranked, Ranking}
 use Rattle.plays.specs.inner.Beaten.{Beaten, over}
 use Rattle.game.specs.inner.Solver.{Found, Marked, Bounds, Kept, Settled, UnrankedBeaten, Narrowed, Solves}
 use Rattle.plays.proofs.CaseLaws.{zero-or, same-or}
-use Rattle.plays.proofs.BeatenLaws.{beaten-limit, held-beaten}
+use Rattle.plays.proofs.BeatenLaws.{beaten-less, beaten-limit, held-beaten}
 
 -- ---- the needs to begin with
 
@@ -67,8 +67,8 @@ pub mark-over : {system needs : List ℕ} {k n : ℕ} → k ≡ n → Marked k s
 mark-over {system} {needs} e h = subst (λ (i : ℕ). Marked i system needs) e h
 
 -- with these needs the system is beaten as they say, whatever the limit
-pub marked-bounds : {G : Arena} {system needs : List ℕ} → Marked (G .states) system needs → UnrankedBeaten G system → (l : ℕ) → 0 < l → Bounds G l needs
-marked-bounds {G} {system} {needs} m lost l some =
+pub marked-bounds : {G : Arena} {system needs : List ℕ} → Marked (G .states) system needs → UnrankedBeaten G system → (l : ℕ) → Bounds G l needs
+marked-bounds {G} {system} {needs} m lost l =
     record {
       within = λ t p. m .won t p .0;
       small = λ t. omega (arith, m .small t);
@@ -80,25 +80,45 @@ marked-bounds {G} {system} {needs} m lost l some =
 
 -- ---- the search for the least limit
 
--- with the limit low the start has no need, with the limit high `best` gives it one
-pub record Between (G : Arena) (start : ℕ) (system best : List ℕ) (low high : ℕ) : Type 0 where
+-- a smaller limit asks for no less
+pub bounds-less : {G : Arena} {l m : ℕ} {needs : List ℕ} → l ≤ m → Bounds G m needs → Bounds G l needs
+bounds-less {G} {l} {m} le b =
+    record {
+      within = b .within;
+      small = b .small;
+      beaten = λ s k hs kl q. beaten-less false G m l le s k (b .beaten s k hs (omega arith) q) k (omega arith);
+    }
+
+-- with the limit low the start has no need, with the limit high `best` gives it one, and what high asks for is no less than `needs`
+pub record Between (G : Arena) (start : ℕ) (system best needs : List ℕ) (low high : ℕ) : Type 0 where
   pub apart : low < high
   pub few : high ≤ G .states
   pub beaten : Beaten false G low start low
   pub ranked : Ranked G true false high best
   pub won : Kept system best
   pub here : 0 < getD best start 0
+  pub bounds : Bounds G high needs
+  pub needs-won : Kept system needs
 
 -- at first between none and the number of states
-pub search-starts : {G : Arena} {start : ℕ} {system : List ℕ} → start < G .states → Ranked G true false (G .states) system → 0 < getD system start 0
-    → Between G start system system 0 (G .states)
-search-starts {G} h ranked here =
-    record { apart = omega arith; few = omega arith; beaten = over refl; ranked = ranked; won = λ t p. p; here = here }
+pub search-starts : {G : Arena} {start : ℕ} {system needs : List ℕ} → start < G .states → Ranked G true false (G .states) system → UnrankedBeaten G system
+    → 0 < getD system start 0 → Marked (G .states) system needs → Between G start system system needs 0 (G .states)
+search-starts {G} h ranked lost here m =
+    record {
+      apart = omega arith;
+      few = omega arith;
+      beaten = over refl;
+      ranked = ranked;
+      won = λ t p. p;
+      here = here;
+      bounds = marked-bounds m lost (G .states);
+      needs-won = λ t p. m .won t p .1;
+    }
 
 -- one limit more was tried
-module _ {G : Arena} {start : ℕ} {system best needs : List ℕ} {low high l : ℕ} (so-far : Between G start system best low high)
-    (settled : Settled G start l system needs) (above : low < l) (below : l < high) where
-  pub search-higher : start < G .states → getD needs start 0 ≡ 0 → Between G start system best l high
+module _ {G : Arena} {start : ℕ} {system best needs next : List ℕ} {low high l : ℕ} (so-far : Between G start system best needs low high)
+    (settled : Settled G start l needs next) (above : low < l) (below : l < high) where
+  pub search-higher : start < G .states → getD next start 0 ≡ 0 → Between G start system best needs l high
   search-higher hs e =
       record {
         apart = below;
@@ -107,22 +127,29 @@ module _ {G : Arena} {start : ℕ} {system best needs : List ℕ} {low high l : 
         ranked = so-far .ranked;
         won = so-far .won;
         here = so-far .here;
+        bounds = so-far .bounds;
+        needs-won = so-far .needs-won;
       }
 
-  pub search-lower : (getD needs start 0 ≡ 0 → ⊥) → Between G start system needs low l
+  next-won : Kept system next
+  next-won t p = so-far .needs-won t (settled .kept t p)
+
+  pub search-lower : (getD next start 0 ≡ 0 → ⊥) → Between G start system next next low l
   search-lower d =
-      let p : 0 < getD needs start 0 = omega arith in
+      let p : 0 < getD next start 0 = omega arith in
       record {
         apart = above;
         few = omega (arith, so-far .few);
         beaten = so-far .beaten;
         ranked = settled .ranked p;
-        won = settled .won;
+        won = next-won;
         here = p;
+        bounds = settled .bounds;
+        needs-won = next-won;
       }
 
 -- no limit is left between the two
-pub search-ends : {G : Arena} {start : ℕ} {system best : List ℕ} {low high : ℕ} → Between G start system best low high → high ≤ low + 1
+pub search-ends : {G : Arena} {start : ℕ} {system best needs : List ℕ} {low high : ℕ} → Between G start system best needs low high → high ≤ low + 1
     → Narrowed G start system best high
 search-ends {G} {start} {low = low} s le =
     record {

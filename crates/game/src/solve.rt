@@ -304,7 +304,7 @@ fn raised(limit: Rank, need: Rank) -> Rank
 }
 
 // The need of state s after a look at it: as it is, where every input has an output by which the needs fall; raised, where an input with the condition has
-// none; dropped, where an input without it has none, since no larger need would help there.
+// none; dropped, where it is above the limit, or an input without the condition has none, since no larger need would help there.
 fn next_need(
     g: Game,
     transitions: &[u8],
@@ -321,6 +321,9 @@ fn next_need(
 {
     let own = needs[s];
     if own == 0 {
+        return 0;
+    }
+    if limit < own {
         return 0;
     }
     let limits = Limits {
@@ -384,22 +387,23 @@ fn first_needs(system: &[Rank; STATE_LIMIT], n: usize) -> [Rank; STATE_LIMIT]
     needs
 }
 
-// The needs with a limit: lifted from the first ones until a sweep changes none, or the start has none.
+// The needs with a limit: lifted from others, which may be too low, until a sweep changes none, or the start has none.
 fn settled(
     g: Game,
     transitions: &[u8],
     accepting: &[u8],
     limit: Rank,
     start: usize,
-    system: &[Rank; STATE_LIMIT],
+    low: &[Rank; STATE_LIMIT],
     witness: &mut [u8; STATE_LIMIT * NUMBER_LIMIT],
 ) -> [Rank; STATE_LIMIT]
     requires { ⌜ Valid (arenaOf g (now transitions) (now accepting)) ⌝ }
-    requires { ⌜ UnrankedBeaten (arenaOf g (now transitions) (now accepting)) (now system) ⌝ }
-    requires { ⌜ (0 < limit) × (limit ≤ stateLimit) × (start < g .states) ⌝ }
-    ensures { λ r. ⌜ Settled (arenaOf g (now (transitions .entry)) (now (accepting .entry))) start limit (now (system .entry)) r ⌝ }
+    requires { ⌜ Bounds (arenaOf g (now transitions) (now accepting)) limit (now low) ⌝ }
+    requires { ⌜ (limit ≤ stateLimit) × (start < g .states) × (length (now low) ≡ stateLimit) ⌝ }
+    ensures { λ r. ⌜ Settled (arenaOf g (now (transitions .entry)) (now (accepting .entry))) start limit (now (low .entry)) r ⌝ }
+    ensures { λ r. ⌜ length r ≡ stateLimit ⌝ }
 {
-    let mut needs: [Rank; STATE_LIMIT] = first_needs(system, g.states);
+    let mut needs: [Rank; STATE_LIMIT] = *low;
     while needs[start] != 0 {
         if !sweep(g, transitions, accepting, limit, &mut needs, witness) {
             break;
@@ -428,7 +432,7 @@ pub struct Needs {
 }
 
 // The needs with the least limit with which the start has one, found between a limit with which it has none and one with which it has. With n it has one:
-// there the system's ranks are such needs.
+// there the system's ranks are such needs. What a smaller limit asks for is no less, so its needs are lifted from those of the last one with which it has.
 fn narrow(
     g: Game,
     transitions: &[u8],
@@ -444,15 +448,17 @@ fn narrow(
     ensures { λ r. ⌜ Narrowed (arenaOf g (now (transitions .entry)) (now (accepting .entry))) start (now (system .entry)) (r .ranks) (r .limit) ⌝ }
 {
     let mut best: [Rank; STATE_LIMIT] = *system;
+    let mut needs: [Rank; STATE_LIMIT] = first_needs(system, g.states);
     let mut low: Rank = 0;
     let mut high: Rank = g.states as Rank;
     while low + 1 < high {
         let limit = between(low, high);
-        let needs = settled(g, transitions, accepting, limit, start, system, witness);
-        if needs[start] == 0 {
+        let next = settled(g, transitions, accepting, limit, start, &needs, witness);
+        if next[start] == 0 {
             low = limit;
         } else {
-            best = needs;
+            best = next;
+            needs = next;
             high = limit;
         }
     }

@@ -8,6 +8,7 @@ use mathlib.Core.List.{List}
 use mathlib.Core.Logic.{_⊎_}
 use lib.Dec.{eqb, ltb}
 use lib.ListN.{getD}
+use Rattle.automaton.specs.Limits.{stateLimit}
 use Rattle.game.specs.inner.Limits.{rankLimit}
 use Rattle.plays.specs.Arena.{State, Input, Output, Arena, next, goal, holds}
 use Rattle.plays.specs.inner.Rank.{judged, Forces, Falls, Ranked, Ranking}
@@ -114,49 +115,49 @@ pub record Marked (n : ℕ) (system needs : List ℕ) : Type 0 where
 -- the needs so far, with the limit l: the system is beaten with every budget up to l that is below a state's need, and with every one where it has none
 pub record Bounds (G : Arena) (l : ℕ) (needs : List ℕ) : Type 0 where
   pub within : (t : ℕ) → 0 < getD needs t 0 → t < G .states
-  pub small : (t : ℕ) → getD needs t 0 ≤ l
+  pub small : (t : ℕ) → getD needs t 0 ≤ stateLimit
   pub beaten : (s k : ℕ) → s < G .states → k ≤ l → (0 < getD needs s 0 → k < getD needs s 0) → Beaten false G l s k
 
 -- every state with a need in new has one in old
 abbrev pub Kept : (old new : List ℕ) → Type 0
 Kept old new = (t : ℕ) → 0 < getD new t 0 → 0 < getD old t 0
 
--- the need of state s stands: it has none, or every input has an output by which the needs fall
-abbrev pub Stands : (G : Arena) (needs : List ℕ) (s : State) → Type 0
-Stands G needs s = 0 < getD needs s 0 → Forces G true s (Falls G true false needs s)
+-- the need of state s stands with the limit l: it has none, or one of at most l, and every input has an output by which the needs fall
+abbrev pub Stands : (G : Arena) (l : ℕ) (needs : List ℕ) (s : State) → Type 0
+Stands G l needs s = 0 < getD needs s 0 → (getD needs s 0 ≤ l) × Forces G true s (Falls G true false needs s)
 
 -- the next need after k, and none above the limit
 abbrev pub raisedNeed : (l k : ℕ) → ℕ
 raisedNeed l k = cond (ltb k l) (k + 1) 0
 
--- how high need k is among those that the limit l allows: none is the highest
-abbrev pub heightOf : (l k : ℕ) → ℕ
-heightOf l k = cond (eqb k 0) (l + 1) k
+-- how high need k is: none is the highest
+abbrev pub heightOf : ℕ → ℕ
+heightOf k = cond (eqb k 0) (stateLimit + 1) k
 
 -- v is a higher need of state s, or none, and the system is beaten as it says
 pub record Higher (G : Arena) (l : ℕ) (needs : List ℕ) (s v : ℕ) : Type 0 where
   pub some : 0 < getD needs s 0
-  pub small : v ≤ l
-  pub higher : heightOf l (getD needs s 0) < heightOf l v
+  pub small : v ≤ stateLimit
+  pub higher : heightOf (getD needs s 0) < heightOf v
   pub beaten : (k : ℕ) → k ≤ l → (0 < v → k < v) → Beaten false G l s k
 
 -- v is what a look at state s makes of its need: the same where it stands, and a higher one, or none, where it does not
 pub record NextNeed (G : Arena) (l : ℕ) (needs : List ℕ) (s v : ℕ) : Type 0 where
-  pub stands : v ≡ getD needs s 0 → Stands G needs s
+  pub stands : v ≡ getD needs s 0 → Stands G l needs s
   pub lifts : (v ≡ getD needs s 0 → ⊥) → Higher G l needs s v
 
 -- a sweep over the first k states, from the needs old; lifted says whether it lifted any
 pub record Swept (G : Arena) (l : ℕ) (old needs : List ℕ) (k : ℕ) (lifted : Bool) : Type 0 where
   pub bounds : Bounds G l needs
   pub kept : Kept old needs
-  pub rises : (t : ℕ) → heightOf l (getD old t 0) ≤ heightOf l (getD needs t 0)
-  pub more : lifted ≡ true → (s : ℕ) × (s < k) × (heightOf l (getD old s 0) < heightOf l (getD needs s 0))
-  pub stand : lifted ≡ false → (s : ℕ) → s < k → Stands G needs s
+  pub rises : (t : ℕ) → heightOf (getD old t 0) ≤ heightOf (getD needs t 0)
+  pub more : lifted ≡ true → (s : ℕ) × (s < k) × (heightOf (getD old s 0) < heightOf (getD needs s 0))
+  pub stand : lifted ≡ false → (s : ℕ) → s < k → Stands G l needs s
 
--- the needs with the limit l after the last sweep: they stand, unless the start has none
-pub record Settled (G : Arena) (start : State) (l : ℕ) (system needs : List ℕ) : Type 0 where
+-- the needs with the limit l after the last sweep, from the needs old: they stand, unless the start has none
+pub record Settled (G : Arena) (start : State) (l : ℕ) (old needs : List ℕ) : Type 0 where
   pub bounds : Bounds G l needs
-  pub won : Kept system needs
+  pub kept : Kept old needs
   pub ranked : 0 < getD needs start 0 → Ranked G true false l needs
 
 -- the system is beaten on every state without a rank, whatever the limit and the budget

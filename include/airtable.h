@@ -130,8 +130,8 @@ uint8_t airtable_solve_rule(size_t i, size_t o, uint8_t mode,
  *
  * Give at least n * 2^(i+o) bytes of moves and n of marks (any mark but 0 is a goal), laid out as above; they are only
  * read. Lend at least 128 * 2^i bytes for station and 128 for outside; can, round and the two tables are written as
- * above, with `start` for state 0 and "enters a goal" for "satisfies the rule". Bit x of mask says whether input number x has the condition. The start's own mark counts
- * for nothing until a step enters it.
+ * above, with `start` for state 0 and "enters a goal" for "satisfies the rule". Bit x of mask says whether input
+ * number x has the condition. The start's own mark counts for nothing until a step enters it.
  */
 uint8_t airtable_solve_given(size_t i, size_t o, uint8_t mode, size_t n,
     const uint8_t *moves, size_t moves_length, const uint8_t *marks, size_t marks_length,

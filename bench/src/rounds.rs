@@ -17,7 +17,8 @@ const STATES: usize = 128;
 /// The automata, with the names of their shapes and starts.
 fn automata(size: (usize, usize)) -> Vec<(&'static str, &'static str, Given)> {
     let mut automata = vec![("chain", "head", chain(STATES, size)), ("ring", "goal", ring(STATES, size))];
-    for (name, start) in [("beside", Start::Beside), ("head", Start::Head), ("last", Start::Last)] {
+    let starts = [("beside", Start::Beside), ("head", Start::Head), ("middle", Start::Middle), ("last", Start::Last)];
+    for (name, start) in starts {
         automata.push(("resting", name, resting(STATES, size, start)));
         automata.push(("climbing", name, climbing(STATES, size, start)));
     }

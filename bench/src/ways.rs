@@ -9,9 +9,9 @@
 //! climbing  the same, but between two that rest stands one that loops under the condition, or goes to the one before it
 //!           or to the chain's head. Once the one before it is dropped its need climbs, one at a time, to the head's
 //!
-//! The start is a state beside the way that enters the goal at once, the chain's head, or the last that rests. In the
-//! first case the number is 1 and all else is of no use; in the second the start fails a limit early; in the last it is
-//! dropped last of all.
+//! The start is a state beside the way that enters the goal at once, the chain's head, its middle, or the last that rests.
+//! In the first case the number is 1 and all else is of no use; at the head the start fails a limit early; in the middle
+//! it keeps a need with many limits with which the rest has to be worked out; the last is dropped last of all.
 
 use solver::calls::Given;
 
@@ -20,6 +20,7 @@ use solver::calls::Given;
 pub enum Start {
     Beside,
     Head,
+    Middle,
     Last,
 }
 
@@ -60,6 +61,7 @@ fn place(n: usize, last: usize, start: Start) -> usize {
     match start {
         Start::Beside => n - 2,
         Start::Head => 0,
+        Start::Middle => n / 4,
         Start::Last => last,
     }
 }

@@ -1,4 +1,4 @@
-//! Given automata that ask much of a search for the round number in the stable mode (crates/game/src/solve.rt: limits are
+//! Given automata that ask much of a search for the round number in the stable mode (crates/game/src/needs.rt: limits are
 //! tried, and for each the needs of the states are lifted one by one until they stand). Only input 0 has the condition;
 //! positions stand on a way to the last one, the goal, and their numbers go up or down along it.
 //!

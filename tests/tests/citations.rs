@@ -45,7 +45,7 @@ fn defined(source: &str) -> BTreeSet<&str> {
     found
 }
 
-/// The file that a citation such as ` G/Rule`, ` G/inner/Solver` or ` G proofs/Laws` names at the beginning of a text.
+/// The file that a citation such as ` G/Rule`, ` G/inner/Rounds` or ` G proofs/Laws` names at the beginning of a text.
 fn file_at(text: &str) -> Option<PathBuf> {
     let mut rest = text.trim_start_matches([' ', '(']).chars();
     let letter = rest.next()?;

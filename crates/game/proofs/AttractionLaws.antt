@@ -9,7 +9,8 @@ use lib.Dec.{ltb, leb}
 use borrow.Author.Tests.{ltb-true, ltb-false, leb-true, leb-false}
 use Rattle.game.specs.inner.Limits.{rankLimit}
 use Rattle.plays.specs.Arena.{Arena}
-use Rattle.game.specs.inner.Solver.{rankedBelow, safeBelow, Unranked, Apart, FirstUnserved, Attracted}
+use Rattle.game.specs.inner.Serving.{rankedBelow, safeBelow, FirstUnserved}
+use Rattle.game.specs.inner.Rounds.{Unranked, Apart, Attracted}
 use Rattle.reader.proofs.BoolLaws.{on}
 use Rattle.game.proofs.LimitLaws.{ranked-below, none-below}
 use Rattle.game.proofs.ServingLaws.{all-served, one-unserved}

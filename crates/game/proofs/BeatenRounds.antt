@@ -11,7 +11,7 @@ use Rattle.game.specs.inner.Limits.{rankLimit}
 use Rattle.plays.specs.Arena.{Arena, next, holds}
 use Rattle.plays.specs.inner.Beaten.{left, Beaten, forced}
 use Rattle.game.specs.inner.Game.{Valid}
-use Rattle.game.specs.inner.Solver.{Attraction}
+use Rattle.game.specs.inner.Rounds.{Attraction}
 use Rattle.game.proofs.IndexLaws.{next-below}
 use Rattle.game.proofs.LimitLaws.{ranked-below, below-none}
 

@@ -8,7 +8,7 @@ use native.Mathlib.Omega.{arith}
 use lib.Dec.{eqb}
 use lib.ListN.{getD}
 use borrow.Author.Tests.{eq-eqb, ne-eqb}
-use Rattle.game.specs.inner.Solver.{Extends, Grows}
+use Rattle.game.specs.inner.Rounds.{Extends, Grows}
 use Rattle.reader.proofs.BoolLaws.{on, nonzero}
 use Rattle.plays.proofs.CaseLaws.{same-or}
 

@@ -7,7 +7,7 @@ use Prim.Native.Nat.{ℕ, _<_}
 use Rattle.plays.specs.Arena.{Arena, next}
 use Rattle.plays.specs.inner.Rank.{Safe, Forces}
 use Rattle.game.specs.inner.Game.{Valid}
-use Rattle.game.specs.inner.Solver.{Favorable}
+use Rattle.game.specs.inner.Rounds.{Favorable}
 use Rattle.game.proofs.IndexLaws.{next-below}
 
 pub safe-map : (G : Arena) (player : Bool) (t : ℕ) {D E : Type 0} → (D → E) → Safe G player t D → Safe G player t E

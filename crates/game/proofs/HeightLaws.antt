@@ -7,7 +7,7 @@ use native.Mathlib.Nat.{suc-mul}
 use native.Mathlib.Omega.{arith}
 use lib.ListN.{getD}
 use Rattle.automaton.specs.Limits.{stateLimit}
-use Rattle.game.specs.inner.Solver.{heightOf}
+use Rattle.game.specs.inner.Needs.{heightOf}
 use Rattle.plays.proofs.CaseLaws.{zero-or, same-or}
 use Rattle.game.proofs.LiftLaws.{height-none, height-some}
 

@@ -13,6 +13,7 @@ pub mod RoundLaws
 pub mod LiftLaws
 pub mod HeightLaws
 pub mod NarrowLaws
+pub mod SolutionLaws
 pub mod TableLaws
 pub mod StrategyLaws
 pub mod CheckLaws

@@ -14,19 +14,8 @@ use Rattle.plays.specs.Arena.{Arena, next, goal, holds}
 use Rattle.plays.specs.inner.Rank.{Forces, Falls, Ranked}
 use Rattle.plays.specs.inner.Beaten.{Beaten, forced}
 use Rattle.game.specs.inner.Game.{Valid}
-use Rattle.game.specs.inner.Solver.{
-  rankedBelow,
-  safeBelow,
-  FirstUnserved,
-  Bounds,
-  Kept,
-  Stands,
-  raisedNeed,
-  heightOf,
-  Higher,
-  NextNeed,
-  Swept,
-}
+use Rattle.game.specs.inner.Serving.{rankedBelow, safeBelow, FirstUnserved}
+use Rattle.game.specs.inner.Needs.{Bounds, Kept, Stands, raisedNeed, heightOf, Higher, NextNeed, Swept}
 use Rattle.reader.proofs.BoolLaws.{on, clash}
 use Rattle.plays.proofs.CaseLaws.{zero-or, same-or, below-or}
 use Rattle.game.proofs.LimitLaws.{ranked-below, below-ranked}

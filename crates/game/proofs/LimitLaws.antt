@@ -8,7 +8,7 @@ use native.Mathlib.Omega.{arith}
 use lib.Dec.{eqb, ltb}
 use lib.ListN.{getD, replicate}
 use borrow.Author.Tests.{eq-eqb, ne-eqb, ltb-true, lt-ltb}
-use Rattle.game.specs.inner.Solver.{rankedBelow}
+use Rattle.game.specs.inner.Serving.{rankedBelow}
 use Rattle.reader.proofs.BoolLaws.{on, clash, not-true→, and-true, nonzero}
 use Rattle.plays.proofs.CaseLaws.{zero-or}
 

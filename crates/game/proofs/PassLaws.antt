@@ -10,7 +10,8 @@ use lib.Seq.{getD-set-same, getD-set-other}
 use Rattle.game.specs.inner.Limits.{rankLimit}
 use Rattle.plays.specs.Arena.{Arena}
 use Rattle.game.specs.inner.Game.{Valid}
-use Rattle.game.specs.inner.Solver.{rankedBelow, Unranked, Attracts, Keeps, InnerRanks, Passed, Attraction}
+use Rattle.game.specs.inner.Serving.{rankedBelow}
+use Rattle.game.specs.inner.Rounds.{Unranked, Attracts, Keeps, InnerRanks, Passed, Attraction}
 use Rattle.plays.proofs.CaseLaws.{zero-or, same-or}
 use Rattle.game.proofs.LimitLaws.{none-below, not-below, below-none, same-below}
 use Rattle.game.proofs.ForcingLaws.{favorable-map}

@@ -7,7 +7,7 @@ use Prim.Native.Nat.{ℕ, _+_, _<_, _≤_}
 use native.Mathlib.Omega.{arith}
 use lib.ListN.{length, getD, set}
 use lib.Seq.{getD-set-same, getD-set-other}
-use Rattle.game.specs.inner.Solver.{Unranked, Promoted}
+use Rattle.game.specs.inner.Rounds.{Unranked, Promoted}
 use Rattle.plays.proofs.CaseLaws.{zero-or, same-or}
 
 pub promotion-starts : {r : ℕ} {outer inner : List ℕ} → Promoted 0 r outer inner outer false

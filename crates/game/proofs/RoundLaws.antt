@@ -12,7 +12,8 @@ use Rattle.plays.specs.Arena.{Arena}
 use Rattle.plays.specs.inner.Rank.{Forces, Falls, Ranked}
 use Rattle.plays.specs.inner.Beaten.{Beaten, over}
 use Rattle.game.specs.inner.Game.{Valid}
-use Rattle.game.specs.inner.Solver.{rankedBelow, Unranked, Favorable, Grows, Attraction, Promoted, Found}
+use Rattle.game.specs.inner.Serving.{rankedBelow}
+use Rattle.game.specs.inner.Rounds.{Unranked, Favorable, Grows, Attraction, Promoted, Found}
 use Rattle.plays.proofs.CaseLaws.{zero-or, below-or}
 use Rattle.game.proofs.LimitLaws.{ranked-below, below-none}
 use Rattle.game.proofs.ForcingLaws.{forces-map}

@@ -9,7 +9,8 @@ use lib.ListN.{getD}
 use borrow.Author.Tests.{eq-eqb, ne-eqb}
 use Rattle.plays.specs.Arena.{Arena, next, goal, holds}
 use Rattle.plays.specs.inner.Rank.{Forces}
-use Rattle.game.specs.inner.Solver.{servingAt, FirstUnserved, Favorable}
+use Rattle.game.specs.inner.Serving.{servingAt, FirstUnserved}
+use Rattle.game.specs.inner.Rounds.{Favorable}
 use Rattle.reader.proofs.BoolLaws.{clash, not-true→, or-left, or-right}
 
 -- a disjunction that is true, by its left part

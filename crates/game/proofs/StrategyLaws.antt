@@ -18,7 +18,7 @@ use Rattle.plays.specs.Round.{Reaching, RoundNumber}
 use Rattle.plays.specs.inner.Rank.{modeOf, Ranked, AllowedOutput, AllowedInput}
 use Rattle.game.specs.Tables.{SystemState, EnvironmentState, Tables, Verdict, noMove}
 use Rattle.game.specs.inner.Bytes.{MixedByte, SystemFilled, EnvironmentFilled}
-use Rattle.game.specs.inner.Solver.{Solves}
+use Rattle.game.specs.inner.Solution.{Solves}
 use Rattle.reader.proofs.BoolLaws.{on, nonzero}
 use Rattle.game.proofs.IndexLaws.{row-below}
 use Rattle.plays.proofs.RankLaws.{system-wins, environment-wins}

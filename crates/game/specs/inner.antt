@@ -2,7 +2,10 @@
 -- Assumes nothing.
 pub mod Limits
 pub mod Game
-pub mod Solver
+pub mod Serving
+pub mod Rounds
+pub mod Needs
+pub mod Solution
 pub mod Bytes
 pub mod Checks
 pub mod RuleChecks

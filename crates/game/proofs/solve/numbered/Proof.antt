@@ -1,7 +1,7 @@
 -- `game::solve::numbered` meets its contract: fair, the start's rank; stable, the answer of `numbered_stable`.
 -- Assumes nothing.
 use borrow.Author.Needs.{needs}
-use Rattle.game.proofs.NarrowLaws.{solves-fair}
+use Rattle.game.proofs.SolutionLaws.{solves-fair}
 use Rattle.game.proofs.solve.numbered.Statement.{statement}
 use Rattle.game.proofs.solve.numbered.Tie as tie
 

@@ -4,7 +4,7 @@ use borrow.Author.Needs.{needs}
 use lib.ListN.{replicate}
 use Rattle.automaton.specs.Limits.{stateLimit}
 use Rattle.game.proofs.LimitLaws.{zeros}
-use Rattle.game.proofs.NarrowLaws.{solves-cannot, asks-narrow, solves-stable}
+use Rattle.game.proofs.SolutionLaws.{solves-cannot, asks-narrow, solves-stable}
 use Rattle.game.proofs.solve.numbered_stable.Statement.{statement}
 use Rattle.game.proofs.solve.numbered_stable.Tie as tie
 

@@ -1,0 +1,23 @@
+-- What the solver hands to the tables.
+-- Assumes nothing.
+use Prim.Native.Nat.{ℕ, _<_, _≤_}
+use mathlib.Core.Path.{_≡_}
+use mathlib.Core.Bool.{Bool, true, false}
+use mathlib.Core.List.{List}
+use lib.ListN.{getD}
+use Rattle.plays.specs.Arena.{State, Arena}
+use Rattle.plays.specs.inner.Rank.{Ranked, Ranking}
+use Rattle.plays.specs.inner.Beaten.{Beaten}
+
+-- what the solver finds: both players' ranks, the ranks `near` by which the system's table goes first, and the round number r. When fair the near ranks
+-- are the system's; when stable they are its needs with the limit r, or none on "cannot"
+pub record Solves (fair : Bool) (G : Arena) (start : State) (near system environment : List ℕ) (r : ℕ) : Type 0 where
+  pub ranking : Ranking fair G system environment
+  pub near-ranked : Ranked G true fair (G .states) near
+  pub near-won : (t : ℕ) → 0 < getD near t 0 → 0 < getD system t 0
+  pub near-fair : fair ≡ true → near ≡ system
+  pub can : 0 < r → 0 < getD near start 0
+  pub cannot : r ≡ 0 → 0 < getD environment start 0
+  pub fair-bound : fair ≡ true → getD near start 0 ≤ r
+  pub stable-bound : fair ≡ false → (t : ℕ) → getD near t 0 ≤ r
+  pub beaten : (k : ℕ) → k < r → Beaten fair G k start k

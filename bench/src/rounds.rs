@@ -5,7 +5,7 @@ use crate::cells;
 use crate::compare::check_given;
 use crate::table::{short, Table};
 use crate::timed::time_given;
-use crate::ways::{chain, climbing, resting, ring, turned, Start};
+use crate::ways::{chain, climbing, crowded, resting, ring, turned, Start};
 use solver::calls::Given;
 use solver::Mode;
 
@@ -22,6 +22,9 @@ fn automata(size: (usize, usize)) -> Vec<(&'static str, &'static str, Given)> {
         automata.push(("resting", name, resting(STATES, size, start)));
         automata.push(("climbing", name, climbing(STATES, size, start)));
     }
+    for (name, line, r) in [("of 16, near", 16, 4), ("of 16, middle", 16, 8), ("of 64, near", 64, 16)] {
+        automata.push(("crowded", name, crowded(STATES, size, line, r)));
+    }
     automata
 }
 
@@ -36,7 +39,7 @@ fn row(shape: &str, start: &str, order: &str, given: &Given, (i, o): (usize, usi
 
 /// Prints the tables, one for each signature.
 pub fn print(aims: &mut Aims) {
-    for size in [(1, 4), (4, 4)] {
+    for size in [(0, 4), (1, 4), (4, 4)] {
         let mut table = Table::new(&HEADS);
         for (shape, start, given) in automata(size) {
             table.row(row(shape, start, "up", &given, size, aims));

@@ -8,6 +8,8 @@
 //!           the one before it, and the first on the chain's head. They are dropped one after the other
 //! climbing  the same, but between two that rest stands one that loops under the condition, or goes to the one before it
 //!           or to the chain's head. Once the one before it is dropped its need climbs, one at a time, to the head's
+//! crowded   a line on which the last output alone goes one position on; behind its end all states hang on the end, and
+//!           every other output leads into that crowd. The start is near the goal, so that the number is small
 //!
 //! The start is a state beside the way that enters the goal at once, the chain's head, its middle, or the last that rests.
 //! In the first case the number is 1 and all else is of no use; at the head the start fails a limit early; in the middle
@@ -54,6 +56,18 @@ pub fn chain(n: usize, size: (usize, usize)) -> Given {
 /// A ring.
 pub fn ring(n: usize, size: (usize, usize)) -> Given {
     given(n, size, 0, 0, |s, x, _| if x == 0 { (s + 1) % n } else { s })
+}
+
+/// A line of so many states with a crowd behind it; the start is the one with the number r.
+pub fn crowded(n: usize, (i, o): (usize, usize), line: usize, r: usize) -> Given {
+    let (goal, last) = (n - 1, (1 << o) - 1);
+    given(n, (i, o), r, goal, |s, x, y| match s {
+        0 => 0,
+        s if s == goal || x != 0 => goal,
+        1 if y == last => goal,
+        s if y == last => (s - 1).min(line),
+        _ => n - 2,
+    })
 }
 
 /// The position of a start, given the last position that rests; the state beside the way stands before the goal.

@@ -1,13 +1,13 @@
 -- Laws of the ranks below a limit.
 -- Assumes nothing.
-use mathlib.Core.Path.{_≡_, refl}
+use mathlib.Core.Path.{_≡_, refl, sym, _∙_}
 use mathlib.Core.Bool.{true, false, not}
 use mathlib.Core.List.{List}
-use Prim.Native.Nat.{ℕ, zero, suc, _<_, _≤_}
+use Prim.Native.Nat.{ℕ, zero, suc, _+_, _-_, _%_, _^_, _<_, _≤_}
 use native.Mathlib.Omega.{arith}
 use lib.Dec.{eqb, ltb}
 use lib.ListN.{getD, replicate}
-use borrow.Author.Tests.{eq-eqb, ne-eqb, ltb-true, lt-ltb}
+use borrow.Author.Tests.{eq-eqb, ne-eqb, ltb-true, ltb-false, lt-ltb}
 use Rattle.game.specs.inner.Serving.{rankedBelow}
 use Rattle.reader.proofs.BoolLaws.{on, clash, not-true→, and-true, nonzero}
 use Rattle.plays.proofs.CaseLaws.{zero-or}
@@ -38,6 +38,17 @@ module _ (limit : ℕ) (r : List ℕ) (t : ℕ) where
   pub none-below : getD r t 0 ≡ 0 → rankedBelow limit r t ≡ false
   unfolding rankedBelow
   none-below e = rw (eq-eqb (getD r t 0) 0 e)
+
+  -- the code's test: one less than the rank, where one less than none is the largest number
+  pub one-less : 0 < limit → limit < 2 ^ 16 → (w : ℕ) → w < 2 ^ 16 → (w + 1) % 2 ^ 16 ≡ getD r t 0 → rankedBelow limit r t ≡ ltb w (limit - 1)
+  one-less some small w l e =
+      on (ltb w (limit - 1))
+      (λ h.
+      let d = ltb-true w (limit - 1) h in
+      below-ranked (omega arith) (omega arith) ∙ sym h)
+      (λ h.
+      let d = ltb-false w (limit - 1) h in
+      on (rankedBelow limit r t) (λ b. let q = ranked-below b in absurd (let z : ⊥ = omega (arith, q .0, q .1) in z)) (λ b. b ∙ sym h))
 
   pub not-below : limit ≤ getD r t 0 → rankedBelow limit r t ≡ false
   not-below h =

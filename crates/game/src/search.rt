@@ -25,11 +25,10 @@ fn ranked_below(limit: Rank, r: &[Rank; STATE_LIMIT], t: usize) -> bool
     requires { ⌜ t < stateLimit ⌝ }
     ensures { λ b. ⌜ b ≡ rankedBelow limit (now (r .entry)) t ⌝ }
 {
-    let rank = r[t];
-    if rank == 0 {
+    if limit == 0 {
         return false;
     }
-    rank < limit
+    std::num::wrapping_sub_u16(r[t], 1) < limit - 1
 }
 
 // Whether output y serves input x on state s: it enters a goal, or a state that is won where x has the condition, and one that is safe where it lacks it.

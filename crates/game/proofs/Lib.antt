@@ -9,7 +9,7 @@ pub mod AttractionLaws
 pub mod PassLaws
 pub mod PromotionLaws
 pub mod BeatenRounds
-pub mod RoundLaws
+pub mod OuterRankLaws
 pub mod LiftLaws
 pub mod HeightLaws
 pub mod NarrowLaws

@@ -1,7 +1,7 @@
 -- Laws of the needs: what a look at a state says, the lift of one state, the sweeps over all states, and the needs after the last one.
 -- Assumes nothing.
 use mathlib.Core.Path.{_≡_, refl, sym, ap, _∙_, subst}
-use mathlib.Core.Bool.{Bool, true, false, cond, Bool·beq}
+use mathlib.Core.Bool.{Bool, true, false, Bool·beq}
 use mathlib.Core.List.{List}
 use mathlib.Core.Logic.{_⊎_, ⊎-elim}
 use Prim.Native.Nat.{ℕ, _+_, _-_, _<_, _≤_}
@@ -10,12 +10,12 @@ use lib.ListN.{length, getD, set}
 use lib.Seq.{getD-set-same, getD-set-other}
 use borrow.Author.Tests.{eq-eqb, ne-eqb, lt-ltb, le-ltb}
 use Rattle.automaton.specs.Limits.{stateLimit}
-use Rattle.plays.specs.Arena.{Arena, next, goal, holds}
+use Rattle.plays.specs.Arena.{Arena, next, holds}
 use Rattle.plays.specs.inner.Rank.{Forces, Falls, Ranked}
 use Rattle.plays.specs.inner.Beaten.{Beaten, forced}
 use Rattle.game.specs.inner.Game.{Valid}
 use Rattle.game.specs.inner.Serving.{rankedBelow, safeBelow, FirstUnserved}
-use Rattle.game.specs.inner.Needs.{Bounds, Kept, Stands, raisedNeed, heightOf, Higher, NextNeed, Swept}
+use Rattle.game.specs.inner.Needs.{Bounds, Shrinks, Stands, raisedNeed, heightOf, Higher, NextNeed, Swept}
 use Rattle.reader.proofs.BoolLaws.{on, clash}
 use Rattle.plays.proofs.CaseLaws.{zero-or, same-or, below-or}
 use Rattle.game.proofs.LimitLaws.{ranked-below, below-ranked}
@@ -192,7 +192,7 @@ module _ {G : Arena} {l : ℕ} {needs : List ℕ} {s w : ℕ} (b : Bounds G l ne
         beaten = lifted-beaten;
       }
 
-  lifted-kept : Kept needs new
+  lifted-kept : Shrinks needs new
   lifted-kept t p =
       same-or t s
       (λ e. subst (λ (i : ℕ). 0 < getD needs i 0) (sym e) (high .some))

@@ -10,7 +10,7 @@ use lib.Seq.{getD-set-same, getD-set-other}
 use Rattle.plays.specs.Arena.{Arena}
 use Rattle.plays.specs.inner.Rank.{Ranked}
 use Rattle.plays.specs.inner.Beaten.{Beaten, over}
-use Rattle.game.specs.inner.Needs.{Marked, Bounds, Kept, Settled, UnrankedBeaten, Narrowed}
+use Rattle.game.specs.inner.Needs.{Marked, Bounds, Shrinks, Settled, UnrankedBeaten, Narrowed}
 use Rattle.plays.proofs.CaseLaws.{zero-or, same-or}
 use Rattle.plays.proofs.BeatenLaws.{beaten-less, beaten-limit}
 
@@ -94,10 +94,10 @@ pub record Between (G : Arena) (start : ℕ) (system best needs : List ℕ) (low
   pub few : high ≤ G .states
   pub beaten : Beaten false G low start low
   pub ranked : Ranked G true false high best
-  pub won : Kept system best
+  pub won : Shrinks system best
   pub here : 0 < getD best start 0
   pub bounds : Bounds G high needs
-  pub needs-won : Kept system needs
+  pub needs-won : Shrinks system needs
 
 -- at first between none and the number of states
 pub search-starts : {G : Arena} {start : ℕ} {system needs : List ℕ} → start < G .states → Ranked G true false (G .states) system → UnrankedBeaten G system
@@ -130,7 +130,7 @@ module _ {G : Arena} {start : ℕ} {system best needs next : List ℕ} {low high
         needs-won = so-far .needs-won;
       }
 
-  next-won : Kept system next
+  next-won : Shrinks system next
   next-won t p = so-far .needs-won t (settled .kept t p)
 
   pub search-lower : (getD next start 0 ≡ 0 → ⊥) → Between G start system next next low l

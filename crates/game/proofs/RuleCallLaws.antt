@@ -1,6 +1,6 @@
 -- The promise of the rule call (specs/Rule.antt), from its tests, the construction and the game.
 -- Assumes nothing.
-use Prim.Native.Nat.{ℕ, _+_, _*_, _^_, _<_, _≤_}
+use Prim.Native.Nat.{ℕ, _*_, _^_, _<_, _≤_}
 use mathlib.Core.Path.{_≡_, refl, sym, ap, _∙_, subst}
 use mathlib.Core.Bool.{Bool, true, false, cond, _||_}
 use mathlib.Core.List.{List}
@@ -10,32 +10,27 @@ use lib.Dec.{ltb}
 use lib.ListN.{length}
 use lib.Pow.{pow-pos}
 use borrow.Author.Tests.{ltb-false}
-use Rattle.reader.specs.declared.reading.Reading.{Reading}
-use Rattle.reader.specs.declared.reading.Reading.the-variants.{Good}
 use Rattle.reader.specs.declared.refusal.Refusal.{Refusal}
 use Rattle.reader.specs.declared.refusal.Refusal.the-variants.{Nothing, StateCount}
-use Rattle.reader.specs.Marks.{ruleKind, conditionKind}
-use Rattle.reader.specs.Reading.{ReadingOf}
-use Rattle.reader.specs.Refusal.{numberOf, placeOf, isNothing}
+use Rattle.reader.specs.Refusal.{isNothing}
 use Rattle.reader.proofs.BoolLaws.{on, or-left, or-right}
 use Rattle.reader.proofs.RefusalLaws.{differs, something, refused-or-served}
 use Rattle.reader.proofs.Unambiguous.{one-reading}
 use Rattle.automaton.specs.declared.construct.Construction.{Construction}
 use Rattle.automaton.specs.declared.construct.Construction.the-variants.{Built, Refused as Unbuilt}
 use Rattle.automaton.specs.Limits.{stateLimit}
-use Rattle.automaton.specs.Alphabet.{badAlphabet, letterCount}
+use Rattle.automaton.specs.Alphabet.{letterCount}
 use Rattle.automaton.specs.Condition.{maskOf}
 use Rattle.automaton.specs.Construction.{shortAutomaton, constructRefusal, Constructed, ConstructionServed}
 use Rattle.automaton.proofs.ReadLaws.{count-of}
 use Rattle.automaton.proofs.ConstructionLaws.{long-enough}
-use Rattle.game.specs.declared.answer.Answer.{Answer}
 use Rattle.game.specs.declared.answer.Answer.the-variants.{Refused}
-use Rattle.game.specs.Answer.{answerNumber, answerPlace, verdictOf}
+use Rattle.game.specs.Answer.{verdictOf}
 use Rattle.plays.specs.declared.mode.Mode.{Mode}
-use Rattle.plays.specs.Arena.{Arena, arena}
+use Rattle.plays.specs.Arena.{arena}
 use Rattle.game.specs.inner.Game.{Valid}
 use Rattle.game.specs.Tables.{Tables, Verdict}
-use Rattle.game.specs.Rule.{Buffers, buffers, shortBuffers, ruleRefusal, RuleSolved}
+use Rattle.game.specs.Rule.{Buffers, buffers, ruleRefusal, RuleSolved}
 use Rattle.game.specs.inner.RuleChecks.{TestsPassed, RuleChecked}
 use Rattle.game.proofs.AnswerLaws.{verdict-number, verdict-place}
 use Rattle.game.proofs.RuleLaws.{some-state, automaton-valid, can-keep, cannot-keep, round-keep}

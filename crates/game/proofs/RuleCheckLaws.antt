@@ -2,7 +2,7 @@
 -- Assumes nothing.
 use Prim.Native.Nat.{ℕ, _*_, _^_, _<_, _≤_}
 use mathlib.Core.Path.{_≡_, refl, sym, ap, _∙_, subst}
-use mathlib.Core.Bool.{Bool, true, false, cond, _||_}
+use mathlib.Core.Bool.{Bool, true, false, cond}
 use mathlib.Core.List.{List}
 use mathlib.Core.Logic.{_⊎_, ⊎-elim}
 use native.Mathlib.Omega.{arith}
@@ -21,14 +21,13 @@ use Rattle.reader.specs.Refusal.{isNothing, afterRule, afterCondition}
 use Rattle.reader.proofs.BoolLaws.{or-true}
 use Rattle.reader.proofs.RefusalLaws.{differs, something, refused-or-served, NotGood, rule-refused, condition-refused}
 use Rattle.reader.proofs.Unambiguous.{some-reading}
-use Rattle.automaton.specs.declared.condition.Assumption.{Assumption}
 use Rattle.automaton.specs.declared.condition.Assumption.the-variants.{Mask, Refused}
 use Rattle.automaton.specs.Limits.{stateLimit}
 use Rattle.automaton.specs.Alphabet.{badAlphabet, letterCount}
 use Rattle.automaton.specs.Condition.{Judges, maskOf, conditionRefusal, Conditioned}
 use Rattle.automaton.proofs.AlphabetLaws.{inputs-fit}
 use Rattle.game.specs.Rule.{Buffers, shortBuffers, ruleRefusal}
-use Rattle.game.specs.inner.RuleChecks.{TestsPassed, RuleChecked}
+use Rattle.game.specs.inner.RuleChecks.{RuleChecked}
 
 -- ---- the condition's own call, once its alphabet and length are in range
 

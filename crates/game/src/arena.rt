@@ -1,10 +1,9 @@
 // The arena in code: its numbers, and one step on its transitions.
 ghost use mathlib.Core.Path.{_≡_};
-ghost use Prim.Native.Nat.{ℕ, _<_};
+ghost use Prim.Native.Nat.{_<_};
 ghost use Rattle.automaton.specs.Limits.{numberLimit};
 ghost use Rattle.automaton.specs.Bits.{bit};
-ghost use Rattle.plays.specs.Arena.{Arena, next};
-ghost use Rattle.game.specs.inner.Game.{arenaOf, Closed, Entered};
+ghost use Rattle.game.specs.inner.Game.{Closed, Entered};
 use automaton::bytes::wide;
 
 // The numbers of states, inputs and outputs.

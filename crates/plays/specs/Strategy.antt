@@ -41,8 +41,8 @@ abbrev pub Failed : Mode → Arena → List Step → Type 0
 Failed Fair G p = InRow (lacks G) (G .states) p
 Failed Stable G p = G .states ≤ count (lacks G) p
 
--- the system's strategy holds good from s with the number k: every play that follows it and on which the condition has come k times reaches a goal, and until
--- a goal no such play comes to a byte that is no output. Demand 3 has n for k, and the round number (Round.antt) from the start
+-- the system's strategy holds good from s with the number k: every play that follows it and on which the condition has come k times reaches a goal, and no play
+-- that follows it comes, before a goal, to a byte that is no output. Demand 3 has n for k, and from the start the round number (Round.antt)
 pub record SystemWins (mode : Mode) (G : Arena) (k : ℕ) (σ : Table) (s : State) : Type 0 where
   pub reaching : (p : List Step) → Along G (BySystem G σ) s p → Assumed mode G k p → reaches G s p ≡ true
   pub answers : (p : List Step) → Along G (BySystem G σ) s p → reaches G s p ≡ false → (x : Input) → x < G .inputs

@@ -24,8 +24,8 @@ pub record Bounds (G : Arena) (l : ℕ) (needs : List ℕ) : Type 0 where
   pub beaten : (s k : ℕ) → s < G .states → k ≤ l → (0 < getD needs s 0 → k < getD needs s 0) → Beaten false G l s k
 
 -- every state with a need in new has one in old
-abbrev pub Kept : (old new : List ℕ) → Type 0
-Kept old new = (t : ℕ) → 0 < getD new t 0 → 0 < getD old t 0
+abbrev pub Shrinks : (old new : List ℕ) → Type 0
+Shrinks old new = (t : ℕ) → 0 < getD new t 0 → 0 < getD old t 0
 
 -- the need of state s stands with the limit l: it has none, or one of at most l, and every input has an output by which the needs fall
 abbrev pub Stands : (G : Arena) (l : ℕ) (needs : List ℕ) (s : State) → Type 0
@@ -54,7 +54,7 @@ pub record NextNeed (G : Arena) (l : ℕ) (needs : List ℕ) (s v : ℕ) : Type 
 -- a sweep over the first k states, from the needs old; lifted says whether it lifted any
 pub record Swept (G : Arena) (l : ℕ) (old needs : List ℕ) (k : ℕ) (lifted : Bool) : Type 0 where
   pub bounds : Bounds G l needs
-  pub kept : Kept old needs
+  pub kept : Shrinks old needs
   pub rises : (t : ℕ) → heightOf (getD old t 0) ≤ heightOf (getD needs t 0)
   pub more : lifted ≡ true → (s : ℕ) × (s < k) × (heightOf (getD old s 0) < heightOf (getD needs s 0))
   pub stand : lifted ≡ false → (s : ℕ) → s < k → Stands G l needs s
@@ -62,7 +62,7 @@ pub record Swept (G : Arena) (l : ℕ) (old needs : List ℕ) (k : ℕ) (lifted 
 -- the needs with the limit l after the last sweep, from the needs old: they stand, unless the start has none
 pub record Settled (G : Arena) (start : State) (l : ℕ) (old needs : List ℕ) : Type 0 where
   pub bounds : Bounds G l needs
-  pub kept : Kept old needs
+  pub kept : Shrinks old needs
   pub ranked : 0 < getD needs start 0 → Ranked G true false l needs
 
 -- the system is beaten on every state without a rank, whatever the limit and the budget
@@ -74,6 +74,6 @@ pub record Narrowed (G : Arena) (start : State) (system needs : List ℕ) (m : �
   pub positive : 0 < m
   pub few : m ≤ G .states
   pub ranked : Ranked G true false m needs
-  pub won : Kept system needs
+  pub won : Shrinks system needs
   pub here : 0 < getD needs start 0
   pub beaten : (k : ℕ) → k < m → Beaten false G k start k

@@ -1,13 +1,13 @@
 -- `game::needs::next_need` meets its contract: for a need of at most the limit the first unserved input decides, if there is one, and whether it has the
 -- condition.
 -- Assumes nothing.
-use mathlib.Core.Path.{_≡_, sym, _∙_, subst}
+use mathlib.Core.Path.{sym, _∙_, subst}
 use Prim.Native.Nat.{ℕ, _<_, _≤_}
 use native.Mathlib.Omega.{arith}
 use borrow.Author.Needs.{needs}
 use lib.ListN.{getD}
 use denote.Ref.{now}
-use Rattle.plays.specs.Arena.{Arena, holds}
+use Rattle.plays.specs.Arena.{holds}
 use Rattle.game.specs.inner.Game.{arenaOf}
 use Rattle.game.specs.inner.Needs.{NextNeed}
 use Rattle.reader.proofs.BoolLaws.{positive}

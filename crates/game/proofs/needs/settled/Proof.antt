@@ -2,15 +2,13 @@
 -- can still rise.
 -- Assumes nothing.
 use mathlib.Core.Path.{_≡_}
-use mathlib.Core.Bool.{false}
-use Prim.Native.Nat.{_+_, _-_, _*_, _<_, _≤_}
+use Prim.Native.Nat.{_+_, _-_, _*_}
 use native.Mathlib.Omega.{arith}
 use borrow.Author.Needs.{needs}
 use lib.ListN.{length}
-use denote.Ref.{now}
 use Rattle.automaton.specs.Limits.{stateLimit}
 use Rattle.game.specs.inner.Game.{arenaOf}
-use Rattle.game.specs.inner.Needs.{Bounds, Kept}
+use Rattle.game.specs.inner.Needs.{Bounds, Shrinks}
 use Rattle.reader.proofs.BoolLaws.{not-true→, not-false→}
 use Rattle.game.proofs.LiftLaws.{sweeps-end}
 use Rattle.game.proofs.HeightLaws.{heightSum, sum-bound, sum-more}
@@ -19,7 +17,7 @@ use Rattle.game.proofs.needs.settled.Tie as tie
 
 abbrev Inv-loop : tie.InvT-loop
 Inv-loop g transitions accepting limit start low witness₀ needs₀ witness needs =
-    Bounds (arenaOf g transitions accepting) limit needs × Kept low needs × (length needs ≡ stateLimit)
+    Bounds (arenaOf g transitions accepting) limit needs × Shrinks low needs × (length needs ≡ stateLimit)
 
 abbrev μ-loop : tie.MeasureT-loop
 μ-loop g transitions accepting limit start low witness₀ needs₀ witness needs = g .states * (stateLimit + 1) - heightSum needs (g .states)

@@ -13,7 +13,7 @@ use Rattle.game.specs.inner.Game.{arenaOf}
 use Rattle.game.specs.inner.Rounds.{Attraction}
 use Rattle.game.proofs.CountLaws.{rankedCount, count-bound, count-more}
 use Rattle.game.proofs.LimitLaws.{zeros}
-use Rattle.game.proofs.RoundLaws.{OuterRanks, Certified, no-rounds, round-more, round-grows, rounds-end, found-fair, found-stable}
+use Rattle.game.proofs.OuterRankLaws.{OuterRanks, Certified, no-rounds, round-more, round-grows, rounds-end, found-fair, found-stable}
 use Rattle.game.proofs.rounds.rounds.Statement.{statement}
 use Rattle.game.proofs.rounds.rounds.Tie as tie
 

@@ -29,11 +29,6 @@ module _ (limit : ℕ) (r : List ℕ) (t : ℕ) where
   unfolding rankedBelow
   below-ranked p l = rw (ne-eqb (getD r t 0) 0 (λ z. let q : ⊥ = omega arith in q), lt-ltb (getD r t 0) limit l)
 
-  -- a rank is below the limit if its number is
-  pub some-below : (getD r t 0 ≡ 0 → ⊥) → rankedBelow limit r t ≡ ltb (getD r t 0) limit
-  unfolding rankedBelow
-  some-below h = rw (ne-eqb (getD r t 0) 0 h)
-
   -- where there is no rank, none is below the limit
   pub none-below : getD r t 0 ≡ 0 → rankedBelow limit r t ≡ false
   unfolding rankedBelow

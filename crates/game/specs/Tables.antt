@@ -1,15 +1,18 @@
--- The two tables that are handed out (specification, "Calls"): every state below n is won by one player, the other player's bytes there are 255,
--- from n up to the limit on states all bytes are 255, and bytes beyond are as they were.
+-- The two tables that are handed out (specification, "Calls" and "Tables"): every state below n is won by one player, whose bytes there are the lowest that
+-- serve, the other player's bytes there are 255, from n up to the limit on states all bytes are 255, and bytes beyond are as they were.
 -- Assumes nothing.
 use Prim.Native.Nat.{ℕ, _*_, _<_, _≤_}
 use mathlib.Core.Path.{_≡_}
+use mathlib.Core.Bool.{cond}
 use mathlib.Core.Logic.{_⊎_}
+use lib.Dec.{eqb}
 use lib.ListN.{length, getD}
 use Rattle.automaton.specs.Limits.{stateLimit}
 use Rattle.plays.specs.declared.mode.Mode.{Mode}
 use Rattle.plays.specs.Arena.{State, Input, Arena}
 use Rattle.plays.specs.Strategy.{Table, systemByte, environmentByte, SystemWins, EnvironmentWins}
 use Rattle.plays.specs.Round.{Reaching, RoundNumber}
+use Rattle.plays.specs.Entry.{Entries}
 
 -- the byte where a player has no move
 abbrev pub noMove : ℕ
@@ -37,9 +40,14 @@ pub record Tables (mode : Mode) (G : Arena) (σ₀ τ₀ σ τ : Table) : Type 0
   pub environment-beyond : (k : ℕ) → stateLimit ≤ k → getD τ k 0 ≡ getD τ₀ k 0
   pub environment-size : length τ ≡ length τ₀
 
+-- what the needs of states are taken with when stable, on n states: the round number r of the start on "can", else n
+abbrev pub needLimit : (n r : ℕ) → ℕ
+needLimit n r = cond (eqb r 0) n r
+
 -- the verdict on the start with the round number r: "can" where r is above 0, and then the system's strategy holds good from the start with r for n;
--- "cannot" where r is 0, and then the environment wins from the start
+-- "cannot" where r is 0, and then the environment wins from the start. Every byte of a winner is the lowest that serves
 pub record Verdict (mode : Mode) (G : Arena) (σ τ : Table) (start : State) (r : ℕ) : Type 0 where
   pub system : 0 < r → SystemState mode G σ τ start × SystemWins mode G r σ start
   pub environment : r ≡ 0 → EnvironmentState mode G σ τ start
   pub round : RoundNumber mode G (Reaching G start) r
+  pub entries : Entries mode G (needLimit (G .states) r) σ τ

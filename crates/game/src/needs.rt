@@ -1,4 +1,4 @@
-// The needs of the system when stable, and the least limit with which the start has one.
+// The needs of the system when stable: the least limit with which the start has one, and the needs of all states with a limit.
 use crate::arena::Game;
 use crate::arena::has_condition;
 use crate::limits::Rank;
@@ -8,12 +8,25 @@ use automaton::limits::NUMBER_LIMIT;
 use automaton::limits::STATE_LIMIT;
 ghost use mathlib.Core.Path.{_≡_};
 ghost use mathlib.Core.Bool.{true, false};
-ghost use Prim.Native.Nat.{_+_, _<_, _≤_};
+ghost use Prim.Native.Nat.{ℕ, _+_, _<_, _≤_};
 ghost use lib.ListN.{length, getD};
 ghost use Rattle.automaton.specs.Limits.{stateLimit};
-ghost use Rattle.plays.specs.inner.Rank.{Ranked};
+ghost use Rattle.plays.specs.inner.Exact.{ExactNeeds};
 ghost use Rattle.game.specs.inner.Game.{arenaOf, Valid};
-ghost use Rattle.game.specs.inner.Needs.{Marked, Bounds, raisedNeed, NextNeed, Swept, Settled, UnrankedBeaten, Narrowed};
+ghost use Rattle.game.specs.inner.Needs.{
+  Marked,
+  Bounds,
+  raisedNeed,
+  NextNeed,
+  Swept,
+  Settled,
+  UnrankedBeaten,
+  Narrowed,
+  Opened,
+  Widening,
+  Widened,
+  Wide,
+};
 
 // Raises a need by one, and drops it above the limit.
 fn raised(limit: Rank, need: Rank) -> Rank
@@ -166,7 +179,8 @@ pub(crate) fn narrow(
 ) -> Needs
     requires { ⌜ Valid (arenaOf g (now transitions) (now accepting)) ⌝ }
     requires { ⌜ (start < g .states) × (0 < getD (now system) start 0) ⌝ }
-    requires { ⌜ Ranked (arenaOf g (now transitions) (now accepting)) true false (g .states) (now system) ⌝ }
+    requires { ⌜ ExactNeeds (arenaOf g (now transitions) (now accepting)) (g .states) (now system) ⌝ }
+    requires { ⌜ (t : ℕ) → getD (now system) t 0 ≤ g .states ⌝ }
     requires { ⌜ UnrankedBeaten (arenaOf g (now transitions) (now accepting)) (now system) ⌝ }
     ensures { λ r. ⌜ Narrowed (arenaOf g (now (transitions .entry)) (now (accepting .entry))) start (now (system .entry)) (r .ranks) (r .limit) ⌝ }
 {
@@ -189,4 +203,91 @@ pub(crate) fn narrow(
         ranks: best,
         limit: high,
     }
+}
+
+// Whether pass p gives state s a need: the system wins it, it has none, and every input has an output into a goal, or into a need below p where the input has
+// the condition, and within the limit where it lacks it.
+fn opened(
+    g: Game,
+    transitions: &[u8],
+    accepting: &[u8],
+    limit: Rank,
+    system: &[Rank; STATE_LIMIT],
+    needs: &[Rank; STATE_LIMIT],
+    p: Rank,
+    s: usize,
+    witness: &mut [u8; STATE_LIMIT * NUMBER_LIMIT],
+) -> bool
+    requires { ⌜ Valid (arenaOf g (now transitions) (now accepting)) ⌝ }
+    requires { ⌜ (s < g .states) × (limit ≤ stateLimit) ⌝ }
+    ensures { λ r. ⌜ Opened (arenaOf g (now (transitions .entry)) (now (accepting .entry))) limit (now (system .entry)) (now (needs .entry)) p s r ⌝ }
+{
+    if system[s] == 0 {
+        return false;
+    }
+    if needs[s] != 0 {
+        return false;
+    }
+    let limits = Limits {
+        won: p,
+        safe: limit + 1,
+        inside: true,
+    };
+    let x = unserved(g, transitions, accepting, needs, needs, limits, s, witness);
+    g.inputs <= x
+}
+
+// Gives the need p to each state to which pass p gives one, and says whether there was one.
+fn widen(
+    g: Game,
+    transitions: &[u8],
+    accepting: &[u8],
+    limit: Rank,
+    system: &[Rank; STATE_LIMIT],
+    needs: &mut [Rank; STATE_LIMIT],
+    p: Rank,
+    witness: &mut [u8; STATE_LIMIT * NUMBER_LIMIT],
+) -> bool
+    requires { ⌜ Valid (arenaOf g (now transitions) (now accepting)) ⌝ }
+    requires { ⌜ Widening (arenaOf g (now transitions) (now accepting)) limit (now system) (now needs) p ⌝ }
+    requires { ⌜ (limit ≤ stateLimit) × (length (now needs) ≡ stateLimit) ⌝ }
+    ensures { λ r. ⌜ Widened (arenaOf g (now (transitions .entry)) (now (accepting .entry))) limit
+        (now (system .entry)) (now (needs .entry)) (now (needs .exit)) p (g .states) r ⌝ }
+    ensures { λ r. ⌜ length (now (needs .exit)) ≡ stateLimit ⌝ }
+{
+    let states = g.states;
+    let mut gave = false;
+    let mut s: usize = 0;
+    while s < states {
+        if opened(g, transitions, accepting, limit, system, needs, p, s, witness) {
+            needs[s] = p;
+            gave = true;
+        }
+        s += 1;
+    }
+    gave
+}
+
+// The needs with a limit, those above it too, from those within it: passes until one gives none.
+pub(crate) fn widened(
+    g: Game,
+    transitions: &[u8],
+    accepting: &[u8],
+    limit: Rank,
+    system: &[Rank; STATE_LIMIT],
+    low: &[Rank; STATE_LIMIT],
+    witness: &mut [u8; STATE_LIMIT * NUMBER_LIMIT],
+) -> [Rank; STATE_LIMIT]
+    requires { ⌜ Valid (arenaOf g (now transitions) (now accepting)) ⌝ }
+    requires { ⌜ Widening (arenaOf g (now transitions) (now accepting)) limit (now system) (now low) (limit + 1) ⌝ }
+    requires { ⌜ UnrankedBeaten (arenaOf g (now transitions) (now accepting)) (now system) ⌝ }
+    requires { ⌜ (limit ≤ stateLimit) × (length (now low) ≡ stateLimit) ⌝ }
+    ensures { λ r. ⌜ Wide (arenaOf g (now (transitions .entry)) (now (accepting .entry))) limit (now (system .entry)) (now (low .entry)) r ⌝ }
+{
+    let mut needs: [Rank; STATE_LIMIT] = *low;
+    let mut p: Rank = limit + 1;
+    while widen(g, transitions, accepting, limit, system, &mut needs, p, witness) {
+        p += 1;
+    }
+    needs
 }

@@ -2,6 +2,7 @@
 use crate::arena::Game;
 use crate::limits::Rank;
 use crate::needs::narrow;
+use crate::needs::widened;
 use crate::rounds::Ranks;
 use crate::rounds::rounds;
 use automaton::limits::NUMBER_LIMIT;
@@ -12,16 +13,19 @@ ghost use Prim.Native.Nat.{_<_};
 ghost use Rattle.game.specs.inner.Game.{arenaOf, Valid};
 ghost use Rattle.game.specs.inner.Rounds.{Found};
 ghost use Rattle.game.specs.inner.Solution.{Solves};
+ghost use Rattle.game.specs.Tables.{needLimit};
 
-// What the solver finds: the ranks of both players, the ranks by which the system's table goes first, and the round number, 0 where the system cannot.
+// What the solver finds: the ranks of both players, the ranks by which the system's table goes first with their limit, and the round number, 0 where the system
+// cannot.
 pub struct Solution {
     pub near: [Rank; STATE_LIMIT],
     pub system: [Rank; STATE_LIMIT],
     pub environment: [Rank; STATE_LIMIT],
+    pub limit: Rank,
     pub round: Rank,
 }
 
-// When stable: the needs with the least limit, and none where the environment wins the start.
+// When stable: the needs with the least limit that does for the start, and the needs with n where the environment wins the start.
 fn numbered_stable(
     g: Game,
     transitions: &[u8],
@@ -35,27 +39,40 @@ fn numbered_stable(
     requires { ⌜ Found (g .fair) (arenaOf g (now transitions) (now accepting)) (ranks .system) (ranks .environment) ⌝ }
     requires { ⌜ g .fair ≡ false ⌝ }
     ensures { λ r. ⌜ Solves (g .fair) (arenaOf g (now (transitions .entry)) (now (accepting .entry))) start
-        (r .near) (r .system) (r .environment) (r .round) ⌝ }
+        (r .near) (r .system) (r .environment) (r .limit) (r .round) ⌝ }
 {
     let system = ranks.system;
     let environment = ranks.environment;
     if environment[start] != 0 {
-        let none: [Rank; STATE_LIMIT] = [0; STATE_LIMIT];
         return Solution {
-            near: none,
+            near: system,
             system: system,
             environment: environment,
+            limit: g.states as Rank,
             round: 0,
         };
     }
     let needs = narrow(g, transitions, accepting, start, &system, witness);
-    let near = needs.ranks;
+    let low = needs.ranks;
+    let limit = needs.limit;
+    let near = widened(g, transitions, accepting, limit, &system, &low, witness);
     Solution {
         near: near,
         system: system,
         environment: environment,
-        round: needs.limit,
+        limit: limit,
+        round: limit,
     }
+}
+
+// What the needs are taken with, on n states: the round number of the start, and n where it is 0.
+fn needs_limit(n: Rank, round: Rank) -> Rank
+    ensures { λ r. ⌜ r ≡ needLimit n round ⌝ }
+{
+    if round == 0 {
+        return n;
+    }
+    round
 }
 
 // The round number of the start, and the ranks by which the system's table keeps it. When fair both are the system's ranks.
@@ -71,7 +88,7 @@ fn numbered(
     requires { ⌜ start < g .states ⌝ }
     requires { ⌜ Found (g .fair) (arenaOf g (now transitions) (now accepting)) (ranks .system) (ranks .environment) ⌝ }
     ensures { λ r. ⌜ Solves (g .fair) (arenaOf g (now (transitions .entry)) (now (accepting .entry))) start
-        (r .near) (r .system) (r .environment) (r .round) ⌝ }
+        (r .near) (r .system) (r .environment) (r .limit) (r .round) ⌝ }
 {
     if g.fair {
         let system = ranks.system;
@@ -81,6 +98,7 @@ fn numbered(
             near: system,
             system: system,
             environment: environment,
+            limit: needs_limit(g.states as Rank, round),
             round: round,
         };
     }
@@ -92,7 +110,7 @@ pub(crate) fn solve(g: Game, transitions: &[u8], accepting: &[u8], start: usize)
     requires { ⌜ Valid (arenaOf g (now transitions) (now accepting)) ⌝ }
     requires { ⌜ start < g .states ⌝ }
     ensures { λ r. ⌜ Solves (g .fair) (arenaOf g (now (transitions .entry)) (now (accepting .entry))) start
-        (r .near) (r .system) (r .environment) (r .round) ⌝ }
+        (r .near) (r .system) (r .environment) (r .limit) (r .round) ⌝ }
 {
     let mut witness: [u8; STATE_LIMIT * NUMBER_LIMIT] = [0; STATE_LIMIT * NUMBER_LIMIT];
     let ranks = rounds(g, transitions, accepting, &mut witness);

@@ -4,13 +4,14 @@ ghost use mathlib.Core.Bool.{true, false, not};
 ghost use Prim.Native.Nat.{_*_, _<_, _≤_};
 ghost use lib.ListN.{length, getD};
 ghost use Rattle.automaton.specs.Limits.{stateLimit};
+ghost use Rattle.plays.specs.Entry.{Lowest};
 ghost use Rattle.plays.specs.inner.Rank.{modeOf, Ranked, Ranking};
 ghost use Rattle.game.specs.inner.Game.{arenaOf, Valid};
 ghost use Rattle.game.specs.Tables.{Tables, Verdict};
 ghost use Rattle.game.specs.inner.Bytes.{
   limitOf,
   IsBelow,
-  GoodOutput,
+  LegalOutput,
   SomeOutput,
   FirstStop,
   IsSafe,
@@ -24,15 +25,14 @@ use crate::arena::Game;
 use crate::arena::enters;
 use crate::arena::has_condition;
 use crate::limits::NO_MOVE;
-use crate::limits::RANK_LIMIT;
 use crate::limits::Rank;
 use crate::solve::solve;
 use automaton::limits::STATE_LIMIT;
 
-// The largest rank that is allowed after a step from a state of rank `own`.
-fn limit(steady: bool, judged: bool, own: Rank) -> Rank
+// The largest rank that is allowed after a step from a state of rank `own`, where `most` is the cap of ranks that are not steady.
+fn limit(steady: bool, most: Rank, judged: bool, own: Rank) -> Rank
     requires { ⌜ 0 < own ⌝ }
-    ensures { λ r. ⌜ r ≡ limitOf steady judged own ⌝ }
+    ensures { λ r. ⌜ r ≡ limitOf steady most judged own ⌝ }
 {
     if judged {
         return own - 1;
@@ -40,7 +40,7 @@ fn limit(steady: bool, judged: bool, own: Rank) -> Rank
     if steady {
         return own;
     }
-    RANK_LIMIT
+    most
 }
 
 // Whether state t has a rank, and one that is at most `most`.
@@ -99,7 +99,7 @@ fn first_output(
     requires { ⌜ Valid (arenaOf g (now transitions) (now accepting)) ⌝ }
     requires { ⌜ (s < g .states) × (x < g .inputs) ⌝ }
     requires { ⌜ SomeOutput (arenaOf g (now transitions) (now accepting)) (now ranks) most s x ⌝ }
-    ensures { λ r. ⌜ (r < g .outputs) × GoodOutput (arenaOf g (now (transitions .entry)) (now (accepting .entry))) true (now (ranks .entry)) most s x r ⌝ }
+    ensures { λ r. ⌜ Lowest (LegalOutput (arenaOf g (now (transitions .entry)) (now (accepting .entry))) (now (ranks .entry)) most s x) r ⌝ }
 {
     first_stop(g, transitions, accepting, ranks, most, true, s, x)
 }
@@ -121,27 +121,28 @@ fn is_safe(
     first_stop(g, transitions, accepting, ranks, most, false, s, x) == g.outputs
 }
 
-// The system's byte for state s and input x: NO_MOVE where the system does not win from s.
+// The system's byte for state s and input x, by ranks with a cap: NO_MOVE where s has no rank.
 fn system_byte(
     g: Game,
     transitions: &[u8],
     accepting: &[u8],
+    most: Rank,
     ranks: &[Rank; STATE_LIMIT],
     s: usize,
     x: usize,
 ) -> u8
     requires { ⌜ Valid (arenaOf g (now transitions) (now accepting)) ⌝ }
-    requires { ⌜ Ranked (arenaOf g (now transitions) (now accepting)) true (g .fair) (g .states) (now ranks) ⌝ }
+    requires { ⌜ Ranked (arenaOf g (now transitions) (now accepting)) true (g .fair) most (now ranks) ⌝ }
     requires { ⌜ (s < stateLimit) × (x < g .inputs) ⌝ }
-    ensures { λ r. ⌜ SystemByte (g .fair) (arenaOf g (now (transitions .entry)) (now (accepting .entry))) (now (ranks .entry)) s x r ⌝ }
+    ensures { λ r. ⌜ SystemByte (g .fair) (arenaOf g (now (transitions .entry)) (now (accepting .entry))) most (now (ranks .entry)) s x r ⌝ }
 {
     let own = ranks[s];
     if own == 0 {
         return NO_MOVE;
     }
     let judged = has_condition(g.mask, x);
-    let most = limit(g.fair, judged, own);
-    let y = first_output(g, transitions, accepting, ranks, most, s, x);
+    let allowed = limit(g.fair, most, judged, own);
+    let y = first_output(g, transitions, accepting, ranks, allowed, s, x);
     y as u8
 }
 
@@ -161,11 +162,12 @@ fn first_input(
 {
     let inputs = g.inputs;
     let steady = !g.fair;
+    let most = g.states as Rank;
     let mut x: usize = 0;
     while x < inputs {
         let judged = !has_condition(g.mask, x);
-        let most = limit(steady, judged, own);
-        if is_safe(g, transitions, accepting, ranks, most, s, x) {
+        let allowed = limit(steady, most, judged, own);
+        if is_safe(g, transitions, accepting, ranks, allowed, s, x) {
             return x;
         }
         x += 1;
@@ -194,26 +196,28 @@ fn environment_byte(
     x as u8
 }
 
-// The system's byte for state s and input x: by the near ranks where s has one, else by the far ones.
+// The system's byte for state s and input x: by the near ranks, with the cap m, where s has one, else by the far ones, with the cap n.
 fn mixed_byte(
     g: Game,
     transitions: &[u8],
     accepting: &[u8],
+    m: Rank,
     near: &[Rank; STATE_LIMIT],
     far: &[Rank; STATE_LIMIT],
     s: usize,
     x: usize,
 ) -> u8
     requires { ⌜ Valid (arenaOf g (now transitions) (now accepting)) ⌝ }
-    requires { ⌜ Ranked (arenaOf g (now transitions) (now accepting)) true (g .fair) (g .states) (now near) ⌝ }
+    requires { ⌜ Ranked (arenaOf g (now transitions) (now accepting)) true (g .fair) m (now near) ⌝ }
     requires { ⌜ Ranked (arenaOf g (now transitions) (now accepting)) true (g .fair) (g .states) (now far) ⌝ }
     requires { ⌜ (s < stateLimit) × (x < g .inputs) ⌝ }
-    ensures { λ r. ⌜ MixedByte (g .fair) (arenaOf g (now (transitions .entry)) (now (accepting .entry))) (now (near .entry)) (now (far .entry)) s x r ⌝ }
+    ensures { λ r. ⌜ MixedByte (g .fair) (arenaOf g (now (transitions .entry)) (now (accepting .entry))) m
+        (now (near .entry)) (now (far .entry)) s x r ⌝ }
 {
     if near[s] == 0 {
-        return system_byte(g, transitions, accepting, far, s, x);
+        return system_byte(g, transitions, accepting, g.states as Rank, far, s, x);
     }
-    system_byte(g, transitions, accepting, near, s, x)
+    system_byte(g, transitions, accepting, m, near, s, x)
 }
 
 // Fills the system's table, for as many states as the limit.
@@ -221,15 +225,16 @@ fn fill_system(
     g: Game,
     transitions: &[u8],
     accepting: &[u8],
+    m: Rank,
     near: &[Rank; STATE_LIMIT],
     far: &[Rank; STATE_LIMIT],
     system: &mut [u8],
 )
     requires { ⌜ Valid (arenaOf g (now transitions) (now accepting)) ⌝ }
-    requires { ⌜ Ranked (arenaOf g (now transitions) (now accepting)) true (g .fair) (g .states) (now near) ⌝ }
+    requires { ⌜ Ranked (arenaOf g (now transitions) (now accepting)) true (g .fair) m (now near) ⌝ }
     requires { ⌜ Ranked (arenaOf g (now transitions) (now accepting)) true (g .fair) (g .states) (now far) ⌝ }
     requires { ⌜ (0 < g .inputs) × (stateLimit * g .inputs ≤ length (now system)) ⌝ }
-    ensures { λ _. ⌜ SystemFilled (g .fair) (arenaOf g (now (transitions .entry)) (now (accepting .entry))) (now (near .entry)) (now (far .entry))
+    ensures { λ _. ⌜ SystemFilled (g .fair) (arenaOf g (now (transitions .entry)) (now (accepting .entry))) m (now (near .entry)) (now (far .entry))
         (now (system .entry)) (now (system .exit)) ⌝ }
 {
     let inputs = g.inputs;
@@ -238,7 +243,7 @@ fn fill_system(
     while k < total {
         let s = k / inputs;
         let x = k % inputs;
-        system[k] = mixed_byte(g, transitions, accepting, near, far, s, x);
+        system[k] = mixed_byte(g, transitions, accepting, m, near, far, s, x);
         k += 1;
     }
 }
@@ -269,6 +274,7 @@ fn fill(
     g: Game,
     transitions: &[u8],
     accepting: &[u8],
+    m: Rank,
     near: &[Rank; STATE_LIMIT],
     far: &[Rank; STATE_LIMIT],
     environment_ranks: &[Rank; STATE_LIMIT],
@@ -276,15 +282,15 @@ fn fill(
     environment: &mut [u8],
 )
     requires { ⌜ Valid (arenaOf g (now transitions) (now accepting)) ⌝ }
-    requires { ⌜ Ranked (arenaOf g (now transitions) (now accepting)) true (g .fair) (g .states) (now near) ⌝ }
+    requires { ⌜ Ranked (arenaOf g (now transitions) (now accepting)) true (g .fair) m (now near) ⌝ }
     requires { ⌜ Ranking (g .fair) (arenaOf g (now transitions) (now accepting)) (now far) (now «environment_ranks») ⌝ }
     requires { ⌜ (0 < g .inputs) × (stateLimit * g .inputs ≤ length (now system)) × (stateLimit ≤ length (now environment)) ⌝ }
-    ensures { λ _. ⌜ SystemFilled (g .fair) (arenaOf g (now (transitions .entry)) (now (accepting .entry))) (now (near .entry)) (now (far .entry))
+    ensures { λ _. ⌜ SystemFilled (g .fair) (arenaOf g (now (transitions .entry)) (now (accepting .entry))) m (now (near .entry)) (now (far .entry))
         (now (system .entry)) (now (system .exit)) ⌝ }
     ensures { λ _. ⌜ EnvironmentFilled (g .fair) (arenaOf g (now (transitions .entry)) (now (accepting .entry))) (now («environment_ranks» .entry))
         (now (environment .entry)) (now (environment .exit)) ⌝ }
 {
-    fill_system(g, transitions, accepting, near, far, system);
+    fill_system(g, transitions, accepting, m, near, far, system);
     fill_environment(g, transitions, accepting, environment_ranks, environment);
 }
 
@@ -313,6 +319,7 @@ pub(crate) fn decide(
         g,
         transitions,
         accepting,
+        solution.limit,
         &near,
         &far,
         &environment_ranks,

@@ -55,10 +55,10 @@ module _ (G : Arena) (n : ℕ) (r : List ℕ) (certificate : Ranked G false true
 
   -- one step, by whether it has the condition
   held-step : (b k s x t : ℕ) → getD r s 0 ≤ suc b → Held b → ((s : ℕ) → 0 < getD r s 0 → getD r s 0 ≤ suc b → Beaten false G m s k)
-      → Falls G false true r s x t → Beaten false G m t (left false m (holds G x) (suc k))
+      → Falls G false true n r s x t → Beaten false G m t (left false m (holds G x) (suc k))
   held-step b k s x t le lower ih d =
       on (holds G x)
-      (λ e. rw e (let z : k ≡ suc k - 1 = omega arith in subst (λ (i : ℕ). Beaten false G m t i) z (ih t (d .0) (omega (arith, d .2 refl)))))
+      (λ e. rw e (let z : k ≡ suc k - 1 = omega arith in subst (λ (i : ℕ). Beaten false G m t i) z (ih t (d .0) (omega (arith, d .2 (rw e))))))
       (λ e. rw e (lower t m (d .0) (omega (arith, d .1 (rw e)))))
 
   held-more : (b : ℕ) → Held b → (k s : ℕ) → 0 < getD r s 0 → getD r s 0 ≤ suc b → Beaten false G m s k

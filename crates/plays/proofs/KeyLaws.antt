@@ -147,13 +147,13 @@ module _ (G : Arena) (key : ℕ → ℕ) (within : (t : ℕ) → 0 < key t → t
   ranks-lower s t w v l =
       omega (arith, ranks-at s (within s w), ranks-at t (within t v), rank-lower key (G .states) s t (within s w) l)
 
-  lowers-allowed : (s x y : ℕ) → 0 < key s → y < G .outputs → Lowers G key s x (next G s x y) → AllowedOutput false G ranks s x y
+  lowers-allowed : (s x y : ℕ) → 0 < key s → y < G .outputs → Lowers G key s x (next G s x y) → AllowedOutput false G (G .states) ranks s x y
   lowers-allowed s x y w l d = (
     l,
     ⊎-elim
         (λ g. _⊎_.inl g)
         (λ v. _⊎_.inr
-        (ranks-some (next G s x y) (v .0), (λ h. ranks-lower s (next G s x y) w (v .0) (v .1 h)), (λ e. absurd (mathlib.Core.Bool.false≢true e))))
+        (ranks-some (next G s x y) (v .0), (λ h. ranks-lower s (next G s x y) w (v .0) (v .1 h)), (λ _. ranks-bound (next G s x y))))
         d,
   )
 
@@ -161,9 +161,9 @@ module _ (G : Arena) (key : ℕ → ℕ) (within : (t : ℕ) → 0 < key t → t
       → ((s : ℕ) → 0 < key s → (x : ℕ) → x < G .inputs → (systemByte G σ s x < G .outputs) × Lowers G key s x (next G s x (systemByte G σ s x)))
       → (s : ℕ) → 0 < key s → SystemWins Stable G (G .states) σ s
   keyed-wins σ lowers s w =
-      system-wins false G σ ranks
+      system-wins false G σ (G .states) ranks
       (λ u v x l. let k = ranks-key u v in let d = lowers u k x l in lowers-allowed u x (systemByte G σ u x) k (d .0) (d .1))
-      (G .states) s ((λ e. absurd (mathlib.Core.Bool.false≢true e)), (λ _. ranks-bound)) (ranks-some s w)
+      (G .states) s (ranks-bound s, (λ _. omega arith)) (ranks-some s w)
 
 -- ---- the keys of the mixed table: the near rank where there is one, and above all of these the far rank
 
@@ -202,12 +202,12 @@ sum-bound [] s = omega arith
 sum-bound (v ∷ l) zero = omega arith
 sum-bound (v ∷ l) (suc s) = let ih = sum-bound l s in omega arith
 
-module _ (G : Arena) (near far : List ℕ) where
+module _ (G : Arena) (m n : ℕ) (near far : List ℕ) where
   abbrev key : ℕ → ℕ
   key s = mixedKey (sum near) (getD near s 0) (getD far s 0)
 
   -- an output by the near ranks, and one by the far ranks on a state that has no near rank
-  lowers-near : (s x y : ℕ) → 0 < getD near s 0 → AllowedOutput false G near s x y → Lowers G key s x (next G s x y)
+  lowers-near : (s x y : ℕ) → 0 < getD near s 0 → AllowedOutput false G m near s x y → Lowers G key s x (next G s x y)
   lowers-near s x y w f =
       let t : ℕ = next G s x y in
       ⊎-elim
@@ -218,7 +218,7 @@ module _ (G : Arena) (near far : List ℕ) where
       _⊎_.inr (omega (arith, d .0), λ h. omega (arith, d .1 h)))
       (f .1)
 
-  lowers-far : (s x y : ℕ) → getD near s 0 ≡ 0 → 0 < getD far s 0 → AllowedOutput false G far s x y → Lowers G key s x (next G s x y)
+  lowers-far : (s x y : ℕ) → getD near s 0 ≡ 0 → 0 < getD far s 0 → AllowedOutput false G n far s x y → Lowers G key s x (next G s x y)
   lowers-far s x y o w f =
       let t : ℕ = next G s x y in
       ⊎-elim
@@ -230,17 +230,17 @@ module _ (G : Arena) (near far : List ℕ) where
       (f .1)
 
 -- a table by the near ranks where a state has one, else by the far ranks, wins with n from every state with a far rank
-pub mixed-wins : (G : Arena) (σ near far : List ℕ) → ((t : ℕ) → 0 < getD near t 0 → t < G .states) → ((t : ℕ) → 0 < getD far t 0 → t < G .states)
-    → ((s : ℕ) → 0 < getD near s 0 → (x : ℕ) → x < G .inputs → AllowedOutput false G near s x (systemByte G σ s x))
-    → ((s : ℕ) → getD near s 0 ≡ 0 → 0 < getD far s 0 → (x : ℕ) → x < G .inputs → AllowedOutput false G far s x (systemByte G σ s x))
+pub mixed-wins : (G : Arena) (m n : ℕ) (σ near far : List ℕ) → ((t : ℕ) → 0 < getD near t 0 → t < G .states) → ((t : ℕ) → 0 < getD far t 0 → t < G .states)
+    → ((s : ℕ) → 0 < getD near s 0 → (x : ℕ) → x < G .inputs → AllowedOutput false G m near s x (systemByte G σ s x))
+    → ((s : ℕ) → getD near s 0 ≡ 0 → 0 < getD far s 0 → (x : ℕ) → x < G .inputs → AllowedOutput false G n far s x (systemByte G σ s x))
     → (s : ℕ) → 0 < getD far s 0 → SystemWins Stable G (G .states) σ s
-mixed-wins G σ near far near-within far-within by-near by-far s w =
-    keyed-wins G (key G near far)
+mixed-wins G m n σ near far near-within far-within by-near by-far s w =
+    keyed-wins G (key G m n near far)
     (λ t v. ⊎-elim (λ a. near-within t a) (λ b. far-within t (b .1)) (mixed-cases (sum near) (getD near t 0) (getD far t 0) v))
     σ
     (λ u v x l.
     ⊎-elim
-    (λ a. let d = by-near u a x l in (d .0, lowers-near G near far u x (systemByte G σ u x) a d))
-    (λ b. let d = by-far u (b .0) (b .1) x l in (d .0, lowers-far G near far u x (systemByte G σ u x) (b .0) (b .1) d))
+    (λ a. let d = by-near u a x l in (d .0, lowers-near G m n near far u x (systemByte G σ u x) a d))
+    (λ b. let d = by-far u (b .0) (b .1) x l in (d .0, lowers-far G m n near far u x (systemByte G σ u x) (b .0) (b .1) d))
     (mixed-cases (sum near) (getD near u 0) (getD far u 0) v))
     s (mixed-at-most (sum near) (getD near s 0) (getD far s 0) (sum-bound near s) w .0)

@@ -1,6 +1,7 @@
 pub mod CaseLaws
 pub mod ModeLaws
 pub mod PlayLaws
+pub mod OpeningLaws
 pub mod RankLaws
 pub mod Determined
 pub mod EndlessLaws

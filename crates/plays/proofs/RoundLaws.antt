@@ -1,91 +1,62 @@
 -- The round number (specs/Round.antt): found from a table that wins with it and from positions that are beaten with less, and there is only one.
 -- Assumes nothing.
-use Prim.Native.Nat.{ℕ, zero, suc, _-_, _*_, _<_, _≤_}
-use mathlib.Core.Path.{_≡_, refl, sym, ap, _∙_, subst}
+use Prim.Native.Nat.{ℕ, _*_, _<_, _≤_}
+use mathlib.Core.Path.{_≡_, refl, sym, _∙_, subst}
 use mathlib.Core.Bool.{Bool, true, false, cond}
-use mathlib.Core.List.{List, [], _∷_, _++_}
+use mathlib.Core.List.{List, [], _∷_}
 use mathlib.Core.Logic.{_⊎_, ⊎-elim}
 use native.Mathlib.Omega.{arith}
 use lib.Dec.{ltb}
-use lib.ListN.{length}
 use borrow.Author.Tests.{ltb-true, lt-ltb}
 use Rattle.machine.specs.Run.{run}
 use Rattle.plays.specs.declared.mode.Mode.{Mode}
 use Rattle.plays.specs.Arena.{Arena, next, holds}
-use Rattle.plays.specs.Play.{Step, entered, standsOn, reaches, Along, count, Every, InRow}
+use Rattle.plays.specs.Play.{Step, entered, standsOn, reaches, Along, count}
 use Rattle.plays.specs.Strategy.{systemByte, BySystem, Assumed, SystemWins, EnvironmentWins}
 use Rattle.plays.specs.Way.{SystemWay, Outputs, byEnvironment, systemAfter, meet, ByWay}
-use Rattle.plays.specs.Round.{Reaching, Does, Counterplay, RoundNumber}
+use Rattle.plays.specs.Round.{Reaching, Does, Counterplay, Smallest, RoundNumber}
+use Rattle.plays.specs.Number.{Opens, Resumes}
 use Rattle.plays.specs.Endless.{first}
 use Rattle.plays.specs.inner.Rank.{modeOf}
 use Rattle.plays.specs.inner.Beaten.{left, Beaten, over, forced}
 use Rattle.reader.proofs.BoolLaws.{on, clash}
 use Rattle.plays.proofs.CaseLaws.{below-or}
-use Rattle.plays.proofs.PlayLaws.{first-avoids, others-avoid, reaches-later, row-later, row-first}
+use Rattle.plays.proofs.PlayLaws.{first-avoids, others-avoid, reaches-later}
+use Rattle.plays.proofs.OpeningLaws.{opens-more, opens-row, resumes-row}
 use Rattle.plays.proofs.Determined.{system-later, failed-or-assumed}
 use Rattle.plays.proofs.EndlessLaws.{first-long}
 use Rattle.plays.proofs.WayLaws.{environment-made}
 
 -- ---- where the system is beaten there is a counterplay to every way
 
--- the play begins with k steps that pass c
-record Opens (c : ℕ → Bool) (k : ℕ) (p : List Step) : Type 0 where
-  pub row : List Step
-  pub rest : List Step
-  pub whole : p ≡ row ++ rest
-  pub long : length row ≡ k
-  pub all : Every c row
-
-module _ (c : ℕ → Bool) where
-  opens-none : (p : List Step) → Opens c 0 p
-  unfolding Every
-  opens-none p = record { row = []; rest = p; whole = refl; long = refl; all = tt }
-
-  -- one step more at the front
-  opens-more : (k : ℕ) (a : Step) (p : List Step) → c (a .input) ≡ true → Opens c (k - 1) p → Opens c k (a ∷ p)
-  unfolding Every
-  opens-more zero a p e o = opens-none (a ∷ p)
-  opens-more (suc k) a p e o =
-      let z : suc k - 1 ≡ k = omega arith in
-      record {
-        row = a ∷ o .row;
-        rest = o .rest;
-        whole = ap (λ (q : List Step). a ∷ q) (o .whole);
-        long = ap suc (o .long ∙ z);
-        all = (e, o .all);
-      }
-
-  opens-row : (k : ℕ) (p : List Step) → Opens c k p → InRow c k p
-  opens-row k p o =
-      subst (λ (q : List Step). InRow c k q) (sym (o .whole)) (row-first c k (o .row) (o .rest) (o .long) (o .all))
-
--- the play uses the budget k up: fair, it has the condition k times; stable, it has it at its first k steps, or at m steps in a row
-abbrev Spent : (fair : Bool) (G : Arena) (m k : ℕ) (p : List Step) → Type 0
+-- the play uses the budget k up: fair, it has the condition k times; stable, at its first k steps, or at m steps in a row after one without it
+abbrev pub Spent : (fair : Bool) (G : Arena) (m k : ℕ) (p : List Step) → Type 0
 Spent true G m k p = k ≤ count (holds G) p
-Spent false G m k p = Opens (holds G) k p ⊎ InRow (holds G) m p
+Spent false G m k p = Opens (holds G) k p ⊎ Resumes (holds G) m p
 
 spent-none : (fair : Bool) (G : Arena) (m k : ℕ) → k ≡ 0 → Spent fair G m k []
+unfolding Opens
 spent-none true G m k e = omega arith
-spent-none false G m k e = _⊎_.inl (subst (λ (i : ℕ). Opens (holds G) i []) (sym e) (opens-none (holds G) []))
+spent-none false G m k e = _⊎_.inl (subst (λ (i : ℕ). Opens (holds G) i []) (sym e) tt)
 
 -- a play that uses up what its first step leaves
 spent-step : (fair : Bool) (G : Arena) (m k : ℕ) (a : Step) (p : List Step) (h : Bool) → holds G (a .input) ≡ h → Spent fair G m (left fair m h k) p
     → Spent fair G m k (a ∷ p)
-unfolding count
+unfolding count Resumes
 spent-step true G m k a p true e o = rw e (omega arith)
 spent-step true G m k a p false e o = rw e o
 spent-step false G m k a p true e (_⊎_.inl o) = _⊎_.inl (opens-more (holds G) k a p e o)
-spent-step false G m k a p true e (_⊎_.inr o) = _⊎_.inr (row-later (holds G) m (a ∷ []) p o)
-spent-step false G m k a p false e (_⊎_.inl o) = _⊎_.inr (row-later (holds G) m (a ∷ []) p (opens-row (holds G) m p o))
-spent-step false G m k a p false e (_⊎_.inr o) = _⊎_.inr (row-later (holds G) m (a ∷ []) p o)
+spent-step false G m k a p true e (_⊎_.inr o) = _⊎_.inr (_⊎_.inr o)
+spent-step false G m k a p false e (_⊎_.inl o) = _⊎_.inr (_⊎_.inl (e, o))
+spent-step false G m k a p false e (_⊎_.inr o) = _⊎_.inr (_⊎_.inr o)
 
 spent-assumed : (fair : Bool) (G : Arena) (k : ℕ) (p : List Step) → Spent fair G k k p → Assumed (modeOf fair) G k p
 spent-assumed true G k p o = o
 spent-assumed false G k p (_⊎_.inl o) = opens-row (holds G) k p o
-spent-assumed false G k p (_⊎_.inr o) = o
+spent-assumed false G k p (_⊎_.inr o) = resumes-row (holds G) k p o
 
 -- the environment's inputs that beat the system, met by the outputs of a way
-spending : (fair : Bool) (G : Arena) (m s k : ℕ) → Beaten fair G m s k → (ω : SystemWay) → Outputs G ω
+pub spending : (fair : Bool) (G : Arena) (m s k : ℕ) → Beaten fair G m s k → (ω : SystemWay) → Outputs G ω
     → (p : List Step) × ByWay G ω p × (reaches G s p ≡ false) × Spent fair G m k p
 unfolding ByWay reaches
 spending fair G m s k (over e) ω legal = ([], tt, refl, spent-none fair G m k e)
@@ -100,7 +71,7 @@ spending fair G m s k (forced x input undone rest) ω legal =
     )
 
 pub beaten-counterplay : (fair : Bool) (G : Arena) (s k : ℕ) → Beaten fair G k s k → (ω : SystemWay) → Outputs G ω
-    → Counterplay (modeOf fair) G (Reaching G s) k ω
+    → Counterplay G (Reaching G s) (Assumed (modeOf fair) G k) ω
 beaten-counterplay fair G s k b ω legal =
     let r = spending fair G k s k b ω legal in
     record { play = r .0; by = r .1; assumed = spent-assumed fair G k (r .0) (r .3); undone = λ e. clash (reaches G s (r .0)) e (r .2) }
@@ -135,7 +106,7 @@ module _ (mode : Mode) (G : Arena) (n : ℕ) (σ : List ℕ) where
       let v = system-later mode G n σ s a h (first-avoids G s a p e) w in
       (h, way-follows (entered G s a) p v (by .2) (others-avoid G s a p e))
 
-pub table-does : (mode : Mode) (G : Arena) (n : ℕ) (σ : List ℕ) (s : ℕ) → SystemWins mode G n σ s → Does mode G (Reaching G s) n (guardedWay G σ s)
+pub table-does : (mode : Mode) (G : Arena) (n : ℕ) (σ : List ℕ) (s : ℕ) → SystemWins mode G n σ s → Does G (Reaching G s) (Assumed mode G n) (guardedWay G σ s)
 table-does mode G n σ s w p by m =
     on (reaches G s p) (λ e. e) (λ e. w .reaching p (way-follows mode G n σ s p w by e) m)
 
@@ -180,34 +151,37 @@ round-map mode G D E r same n =
 
 -- ---- it is the only one
 
--- a way that does with k, and a counterplay to every way with k, exclude each other
-does-not : (mode : Mode) (G : Arena) (Done : List Step → Type 0) (k : ℕ) (ω : SystemWay) → Does mode G Done k ω → Counterplay mode G Done k ω → ⊥
-does-not mode G Done k ω does c = c .undone (does (c .play) (c .by) (c .assumed))
+-- a way that does, and a counterplay to every way, exclude each other
+does-not : (G : Arena) (Done A : List Step → Type 0) (ω : SystemWay) → Does G Done A ω → Counterplay G Done A ω → ⊥
+does-not G Done A ω does c = c .undone (does (c .play) (c .by) (c .assumed))
 
--- so, of two round numbers, none is above 0 and below the other, or above 0 where the other is 0
-not-smaller : (mode : Mode) (G : Arena) (Done : List Step → Type 0) (q r : ℕ) → RoundNumber mode G Done q → RoundNumber mode G Done r → 0 < r
-    → (0 < q → r < q) → ⊥
-not-smaller mode G Done q r n m l below =
-    let w = m .some l in
-    does-not mode G Done r (w .0) (w .2) (n .smallest r l below (w .0) (w .1))
+module _ (G : Arena) (Done : List Step → Type 0) (A : ℕ → List Step → Type 0) where
+  -- so, of two smallest numbers, none is above 0 and below the other, or above 0 where the other is 0
+  not-smaller : (q r : ℕ) → Smallest G Done A q → Smallest G Done A r → 0 < r → (0 < q → r < q) → ⊥
+  not-smaller q r n m l below =
+      let w = m .some l in
+      does-not G Done (A r) (w .0) (w .2) (n .smallest r l below (w .0) (w .1))
+
+  pub one-smallest : (q r : ℕ) → Smallest G Done A q → Smallest G Done A r → q ≡ r
+  one-smallest q r n m =
+      below-or q r
+      (λ l. absurd (below-or 0 q
+      (λ w. not-smaller r q m n w (λ _. l))
+      (λ z. not-smaller q r n m (omega arith) (λ w. absurd (let y : ⊥ = omega arith in y)))))
+      (λ le. below-or r q
+      (λ l. absurd (below-or 0 r
+      (λ w. not-smaller q r n m w (λ _. l))
+      (λ z. not-smaller r q m n (omega arith) (λ w. absurd (let y : ⊥ = omega arith in y)))))
+      (λ ge. omega arith))
 
 pub one-round : (mode : Mode) (G : Arena) (Done : List Step → Type 0) (q r : ℕ) → RoundNumber mode G Done q → RoundNumber mode G Done r → q ≡ r
-one-round mode G Done q r n m =
-    below-or q r
-    (λ l. absurd (below-or 0 q
-    (λ w. not-smaller mode G Done r q m n w (λ _. l))
-    (λ z. not-smaller mode G Done q r n m (omega arith) (λ w. absurd (let y : ⊥ = omega arith in y)))))
-    (λ le. below-or r q
-    (λ l. absurd (below-or 0 r
-    (λ w. not-smaller mode G Done q r n m w (λ _. l))
-    (λ z. not-smaller mode G Done r q m n (omega arith) (λ w. absurd (let y : ⊥ = omega arith in y)))))
-    (λ ge. omega arith))
+one-round mode G Done q r n m = one-smallest G Done (Assumed mode G) q r n m
 
 -- a table that wins with N bounds it
 pub round-bound : (mode : Mode) (G : Arena) (σ : List ℕ) (s N r : ℕ) → 0 < N → 0 < G .outputs → SystemWins mode G N σ s
     → RoundNumber mode G (Reaching G s) r → r ≤ N
 round-bound mode G σ s N r positive some w n =
     below-or N r
-    (λ l. absurd (does-not mode G (Reaching G s) N (guardedWay G σ s) (table-does mode G N σ s w)
+    (λ l. absurd (does-not G (Reaching G s) (Assumed mode G N) (guardedWay G σ s) (table-does mode G N σ s w)
     (n .smallest N positive (λ _. l) (guardedWay G σ s) (table-way G σ s some))))
     (λ le. le)

@@ -3,5 +3,7 @@ pub mod Play
 pub mod Strategy
 pub mod Way
 pub mod Round
+pub mod Number
+pub mod Entry
 pub mod Endless
 pub mod inner

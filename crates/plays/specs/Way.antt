@@ -54,3 +54,8 @@ meet α ω (suc j) = meet (environmentAfter (meeting α ω) α) (systemAfter (me
 unfoldable pub ByWay : Arena → SystemWay → List Step → Type 0
 ByWay G ω [] = Unit {0}
 ByWay G ω (a ∷ p) = Legal G a × (a .output ≡ ω [] (a .input)) × ByWay G (systemAfter a ω) p
+
+-- a play by a way of the environment: its numbers are in range, and each input is the way's for the steps before
+unfoldable pub ByInputs : Arena → EnvironmentWay → List Step → Type 0
+ByInputs G α [] = Unit {0}
+ByInputs G α (a ∷ p) = Legal G a × (a .input ≡ α []) × ByInputs G (environmentAfter a α) p

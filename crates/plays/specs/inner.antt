@@ -2,3 +2,4 @@
 -- Assumes nothing.
 pub mod Rank
 pub mod Beaten
+pub mod Exact

@@ -5,17 +5,16 @@ use mathlib.Core.Path.{_≡_}
 use mathlib.Core.Bool.{Bool, true, false, not}
 use mathlib.Core.List.{List}
 use lib.ListN.{length, getD}
-use Rattle.game.specs.inner.Limits.{rankLimit}
 use Rattle.automaton.specs.Limits.{stateLimit}
 use Rattle.plays.specs.Arena.{State, Input, Output, Arena, next}
-use Rattle.plays.specs.inner.Rank.{Safe, AllowedOutput, AllowedInput}
+use Rattle.plays.specs.Entry.{Lowest}
+use Rattle.plays.specs.inner.Rank.{cap, Safe, AllowedOutput, AllowedInput}
 use Rattle.game.specs.Tables.{noMove}
 
--- the largest rank that is allowed after a step from a state of rank `own`: a lower one at a judged input, and else no higher one where the ranks are steady
-abbrev pub limitOf : Bool → Bool → ℕ → ℕ
-limitOf steady true own = own - 1
-limitOf true false own = own
-limitOf false false own = rankLimit
+-- the largest rank that is allowed after a step from a state of rank `own`: a lower one at a judged input, and else the cap
+abbrev pub limitOf : (steady : Bool) (most : ℕ) (judged : Bool) (own : ℕ) → ℕ
+limitOf steady most true own = own - 1
+limitOf steady most false own = cap steady most own
 
 -- state t has a rank, and one that is at most `limit`
 abbrev pub Below : List ℕ → ℕ → ℕ → Type 0
@@ -29,6 +28,10 @@ pub record IsBelow (r : List ℕ) (limit t : ℕ) (b : Bool) : Type 0 where
 -- output y is good for a player by its ranks: the state that it enters is safe for the player, with a rank that is at most `limit`
 abbrev pub GoodOutput : (G : Arena) (player : Bool) (r : List ℕ) (limit : ℕ) (s : State) (x : Input) (y : Output) → Type 0
 GoodOutput G player r limit s x y = Safe G player (next G s x y) (Below r limit (next G s x y))
+
+-- it is an output, and good for the system
+abbrev pub LegalOutput : (G : Arena) (r : List ℕ) (limit : ℕ) (s : State) (x : Input) (y : Output) → Type 0
+LegalOutput G r limit s x y = (y < G .outputs) × GoodOutput G true r limit s x y
 
 -- some output is good for the system, and every output is good for the environment
 abbrev pub SomeOutput : (G : Arena) (r : List ℕ) (limit : ℕ) (s : State) (x : Input) → Type 0
@@ -53,24 +56,24 @@ pub record IsSafe (G : Arena) (r : List ℕ) (limit s x : ℕ) (b : Bool) : Type
   pub safe : b ≡ true → EveryOutput G r limit s x
   pub unsafe : b ≡ false → EveryOutput G r limit s x → ⊥
 
--- the system's byte for state s and input x
-pub record SystemByte (fair : Bool) (G : Arena) (r : List ℕ) (s x b : ℕ) : Type 0 where
+-- the system's byte for state s and input x: the lowest output that the ranks allow
+pub record SystemByte (fair : Bool) (G : Arena) (most : ℕ) (r : List ℕ) (s x b : ℕ) : Type 0 where
   pub none : getD r s 0 ≡ 0 → b ≡ noMove
-  pub allowed : 0 < getD r s 0 → AllowedOutput fair G r s x b
+  pub lowest : 0 < getD r s 0 → Lowest (AllowedOutput fair G most r s x) b
 
--- the environment's byte for state s
+-- the environment's byte for state s: the lowest input that the ranks allow
 pub record EnvironmentByte (fair : Bool) (G : Arena) (r : List ℕ) (s b : ℕ) : Type 0 where
   pub none : getD r s 0 ≡ 0 → b ≡ noMove
-  pub allowed : 0 < getD r s 0 → AllowedInput fair G r s b
+  pub lowest : 0 < getD r s 0 → Lowest (AllowedInput fair G r s) b
 
--- the system's byte by two ranks: by the near ones on a state that has one, else by the far ones
-pub record MixedByte (fair : Bool) (G : Arena) (near far : List ℕ) (s x b : ℕ) : Type 0 where
-  pub by-near : 0 < getD near s 0 → AllowedOutput fair G near s x b
-  pub by-far : getD near s 0 ≡ 0 → SystemByte fair G far s x b
+-- the system's byte by two ranks: by the near ones, with the limit m, on a state that has one, else by the far ones
+pub record MixedByte (fair : Bool) (G : Arena) (m : ℕ) (near far : List ℕ) (s x b : ℕ) : Type 0 where
+  pub by-near : 0 < getD near s 0 → Lowest (AllowedOutput fair G m near s x) b
+  pub by-far : getD near s 0 ≡ 0 → SystemByte fair G (G .states) far s x b
 
 -- the system's table in a buffer that held σ₀
-pub record SystemFilled (fair : Bool) (G : Arena) (near far σ₀ σ : List ℕ) : Type 0 where
-  pub byte : (k : ℕ) → k < stateLimit * G .inputs → MixedByte fair G near far (k / G .inputs) (k % G .inputs) (getD σ k 0)
+pub record SystemFilled (fair : Bool) (G : Arena) (m : ℕ) (near far σ₀ σ : List ℕ) : Type 0 where
+  pub byte : (k : ℕ) → k < stateLimit * G .inputs → MixedByte fair G m near far (k / G .inputs) (k % G .inputs) (getD σ k 0)
   pub beyond : (k : ℕ) → stateLimit * G .inputs ≤ k → getD σ k 0 ≡ getD σ₀ k 0
   pub size : length σ ≡ length σ₀
 

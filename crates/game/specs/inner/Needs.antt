@@ -1,4 +1,5 @@
--- Needs: the system's ranks when stable with a limit l on steps in a row, lifted from 1 until they stand; one above the limit is dropped, to 0.
+-- Needs: the system's ranks when stable with a limit l on steps in a row after one without the condition. Those up to the limit are lifted from 1 until they
+-- stand, and one above it is dropped, to 0; those above the limit are given by passes.
 -- Assumes nothing.
 use Prim.Native.Nat.{ℕ, _+_, _<_, _≤_}
 use mathlib.Core.Path.{_≡_}
@@ -7,9 +8,11 @@ use mathlib.Core.List.{List}
 use lib.Dec.{eqb, ltb}
 use lib.ListN.{getD}
 use Rattle.automaton.specs.Limits.{stateLimit}
-use Rattle.plays.specs.Arena.{State, Arena}
+use Rattle.plays.specs.Arena.{State, Input, Arena, holds}
 use Rattle.plays.specs.inner.Rank.{Forces, Falls, Ranked}
 use Rattle.plays.specs.inner.Beaten.{Beaten}
+use Rattle.plays.specs.inner.Exact.{ExactNeeds}
+use Rattle.game.specs.inner.Rounds.{Extends, Grows}
 
 -- the needs to begin with: 1 for each state below n that has a rank
 pub record Marked (n : ℕ) (system needs : List ℕ) : Type 0 where
@@ -29,7 +32,7 @@ Shrinks old new = (t : ℕ) → 0 < getD new t 0 → 0 < getD old t 0
 
 -- the need of state s stands with the limit l: it has none, or one of at most l, and every input has an output by which the needs fall
 abbrev pub Stands : (G : Arena) (l : ℕ) (needs : List ℕ) (s : State) → Type 0
-Stands G l needs s = 0 < getD needs s 0 → (getD needs s 0 ≤ l) × Forces G true s (Falls G true false needs s)
+Stands G l needs s = 0 < getD needs s 0 → (getD needs s 0 ≤ l) × Forces G true s (Falls G true false l needs s)
 
 -- the next need after k, and none above the limit
 abbrev pub raisedNeed : (l k : ℕ) → ℕ
@@ -59,21 +62,63 @@ pub record Swept (G : Arena) (l : ℕ) (old needs : List ℕ) (k : ℕ) (lifted 
   pub more : lifted ≡ true → (s : ℕ) × (s < k) × (heightOf (getD old s 0) < heightOf (getD needs s 0))
   pub stand : lifted ≡ false → (s : ℕ) → s < k → Stands G l needs s
 
--- the needs with the limit l after the last sweep, from the needs old: they stand, unless the start has none
+-- the needs with the limit l after the last sweep, from the needs old: they stand, and are within the limit, unless the start has none
 pub record Settled (G : Arena) (start : State) (l : ℕ) (old needs : List ℕ) : Type 0 where
   pub bounds : Bounds G l needs
   pub kept : Shrinks old needs
   pub ranked : 0 < getD needs start 0 → Ranked G true false l needs
+  pub low : 0 < getD needs start 0 → (t : ℕ) → getD needs t 0 ≤ l
 
 -- the system is beaten on every state without a rank, whatever the limit and the budget
 abbrev pub UnrankedBeaten : (G : Arena) (system : List ℕ) → Type 0
 UnrankedBeaten G system = (s : ℕ) → s < G .states → getD system s 0 ≡ 0 → (m k : ℕ) → Beaten false G m s k
 
--- needs with the least limit m with which the start keeps one
+-- needs with the least limit m with which the start keeps one, those above m left out
 pub record Narrowed (G : Arena) (start : State) (system needs : List ℕ) (m : ℕ) : Type 0 where
   pub positive : 0 < m
   pub few : m ≤ G .states
+  pub bounds : Bounds G m needs
   pub ranked : Ranked G true false m needs
+  pub low : (t : ℕ) → getD needs t 0 ≤ m
   pub won : Shrinks system needs
   pub here : 0 < getD needs start 0
   pub beaten : (k : ℕ) → k < m → Beaten false G k start k
+
+-- ---- needs above the limit
+
+-- after input x the entered state t has a need: below p where the input has the condition, within the limit m where it lacks it
+abbrev pub Enters : (G : Arena) (m p : ℕ) (needs : List ℕ) (x : Input) (t : State) → Type 0
+Enters G m p needs x t = (0 < getD needs t 0) × (holds G x ≡ true → getD needs t 0 < p) × (holds G x ≡ false → getD needs t 0 ≤ m)
+
+-- after input x the entered state t has no need, or one that is not below p where the input has the condition, and above the limit where it lacks it
+abbrev pub Bars : (G : Arena) (m p : ℕ) (needs : List ℕ) (x : Input) (t : State) → Type 0
+Bars G m p needs x t = 0 < getD needs t 0 → (holds G x ≡ true → p ≤ getD needs t 0) × (holds G x ≡ false → m < getD needs t 0)
+
+-- r says whether pass p gives state s, which the system wins, a need
+pub record Opened (G : Arena) (m : ℕ) (system needs : List ℕ) (p s : ℕ) (r : Bool) : Type 0 where
+  pub gains : r ≡ true → (0 < getD system s 0) × (getD needs s 0 ≡ 0) × Forces G true s (Enters G m p needs)
+  pub stays : r ≡ false → 0 < getD system s 0 → getD needs s 0 ≡ 0 → Forces G false s (Bars G m p needs)
+
+-- the needs with the limit m after the passes before p
+pub record Widening (G : Arena) (m : ℕ) (system needs : List ℕ) (p : ℕ) : Type 0 where
+  pub above : m < p
+  pub ranked : Ranked G true false m needs
+  pub won : Shrinks system needs
+  pub below : (t : ℕ) → getD needs t 0 < p
+  pub beaten : (s k : ℕ) → s < G .states → k < p → (0 < getD needs s 0 → k < getD needs s 0) → Beaten false G m s k
+
+-- pass p over the first k states, from the needs old; gave says whether it gave any
+pub record Widened (G : Arena) (m : ℕ) (system old needs : List ℕ) (p k : ℕ) (gave : Bool) : Type 0 where
+  pub ranked : Ranked G true false m needs
+  pub won : Shrinks system needs
+  pub below : (t : ℕ) → getD needs t 0 < p + 1
+  pub bars : (s : ℕ) → s < k → 0 < getD system s 0 → getD needs s 0 ≡ 0 → Forces G false s (Bars G m p needs)
+  pub extends : Extends old needs
+  pub more : gave ≡ true → Grows k old needs
+  pub none : gave ≡ false → needs ≡ old
+
+-- the needs with the limit m, those above it too
+pub record Wide (G : Arena) (m : ℕ) (system low needs : List ℕ) : Type 0 where
+  pub exact : ExactNeeds G m needs
+  pub won : Shrinks system needs
+  pub extends : Extends low needs

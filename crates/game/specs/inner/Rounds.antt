@@ -9,7 +9,7 @@ use lib.ListN.{getD}
 use Rattle.game.specs.inner.Limits.{rankLimit}
 use Rattle.plays.specs.Arena.{State, Input, Arena}
 use Rattle.plays.specs.inner.Rank.{judged, Forces, Ranking}
-use Rattle.plays.specs.inner.Beaten.{Beaten}
+use Rattle.plays.specs.inner.Exact.{ExactRounds, ExactDistances, ExactNeeds, ExactCounts}
 use Rattle.game.specs.inner.Serving.{rankedBelow}
 
 -- state s has neither rank
@@ -44,6 +44,12 @@ pub record InnerRanks (fair : Bool) (G : Arena) (outer inner : List ℕ) (limit 
   pub below : (t : ℕ) → getD inner t 0 < limit
   pub forced : (s : ℕ) → 0 < getD inner s 0 → Attracts fair G outer inner (getD inner s 0) s
 
+-- a state without an outer rank that a pass before q left out: the player of the outer ranks keeps it from the inner ranks below that pass, whatever later
+-- passes give
+abbrev pub Stayed : (fair : Bool) (G : Arena) (outer inner : List ℕ) (q : ℕ) → Type 0
+Stayed fair G outer inner q = (s p : ℕ) → s < G .states → getD outer s 0 ≡ 0 → 0 < p → p < q → (0 < getD inner s 0 → p < getD inner s 0)
+    → Keeps fair G outer inner p s
+
 -- the ranks of old stand in new
 abbrev pub Extends : List ℕ → List ℕ → Type 0
 Extends old new = (t : ℕ) → 0 < getD old t 0 → getD new t 0 ≡ getD old t 0
@@ -55,6 +61,7 @@ Grows n old new = (s : ℕ) × (s < n) × (getD old s 0 ≡ 0) × (0 < getD new 
 -- pass p over the first k states, from the inner ranks old; gave says whether it gave any rank
 pub record Passed (fair : Bool) (G : Arena) (outer old inner : List ℕ) (p k : ℕ) (gave : Bool) : Type 0 where
   pub ranks : InnerRanks fair G outer inner (p + 1)
+  pub stayed : Stayed fair G outer inner p
   pub keeps : (s : ℕ) → s < k → Unranked outer inner s → Keeps fair G outer inner p s
   pub extends : Extends old inner
   pub more : gave ≡ true → Grows k old inner
@@ -63,6 +70,7 @@ pub record Passed (fair : Bool) (G : Arena) (outer old inner : List ℕ) (p k : 
 -- the inner ranks after the last pass: the player of the outer ranks can keep to the states without one
 pub record Attraction (fair : Bool) (G : Arena) (outer inner : List ℕ) : Type 0 where
   pub ranks : InnerRanks fair G outer inner (G .states + 1)
+  pub stayed : (s p : ℕ) → 0 < p → p < getD inner s 0 → Keeps fair G outer inner p s
   pub keeps : (s : ℕ) → s < G .states → Unranked outer inner s → Keeps fair G outer inner rankLimit s
 
 -- the states below n with neither rank got the outer rank r; gave says whether there is one
@@ -74,7 +82,10 @@ pub record Promoted (n r : ℕ) (outer inner new : List ℕ) (gave : Bool) : Typ
   pub more : gave ≡ true → (s : ℕ) × (s < n) × Unranked outer inner s
   pub none : gave ≡ false → (new ≡ outer) × ((s : ℕ) → s < n → getD outer s 0 ≡ 0 → 0 < getD inner s 0)
 
--- the ranks of both players after the last round; when fair the system is beaten with every budget below its rank
+-- the ranks of both players after the last round, and that they are exact
 pub record Found (fair : Bool) (G : Arena) (system environment : List ℕ) : Type 0 where
   pub ranking : Ranking fair G system environment
-  pub beaten : fair ≡ true → (s k m : ℕ) → s < G .states → k < getD system s 0 → Beaten true G m s k
+  pub rounds : fair ≡ true → ExactRounds G system
+  pub distances : fair ≡ true → ExactDistances G environment
+  pub needs : fair ≡ false → ExactNeeds G (G .states) system
+  pub counts : fair ≡ false → ExactCounts G environment

@@ -115,9 +115,12 @@ extern "C" {
  *            with less; else 0
  *   moves    byte s * 2^(i+o) + letter: the state after that letter in state s
  *   marks    byte s: 1 if state s is a goal, else 0
- *   station  byte s * 2^i + input: the output to set; 255 all over the rows of states that the outside wins
- *   outside  byte s: the input that keeps the station from its goal; 255 for states that the station wins
- * The rest of the 128 states' share is 0 in moves and marks, and 255 in the two tables.
+ *   station  byte s * 2^i + input: the output to set, the lowest that serves; 255 all over the rows of states that the
+ *            outside wins
+ *   outside  byte s: the input that keeps the station from its goal, the lowest that serves; 255 for states that the
+ *            station wins
+ * The rest of the 128 states' share is 0 in moves and marks, and 255 in the two tables. Every byte is determined by the
+ * arguments: docs/SPECIFICATION.md, "Tables", says which output and which input serve.
  */
 uint8_t airtable_solve_rule(size_t i, size_t o, uint8_t mode,
     const uint8_t *rule, size_t rule_length, const uint8_t *condition, size_t condition_length,

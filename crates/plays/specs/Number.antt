@@ -34,8 +34,8 @@ unfoldable pub Resumes : (Input → Bool) → ℕ → List Step → Type 0
 Resumes c m [] = ⊥
 Resumes c m (a ∷ p) = ((c (a .input) ≡ false) × Opens c m p) ⊎ Resumes c m p
 
--- k is the need of state s with m: the smallest k, from 1 up, for which some way shuts out, before a goal, k steps with the condition at the opening and m in
--- a row after any step without it; 0 where there is none. It may be larger than m
+-- k is the need of state s with m: the smallest number, from 1 up, such that by some way every play from s reaches a goal that opens with k steps that have the
+-- condition, or has m of these in a row directly after a step that lacks it; 0 where there is none. It may be larger than m
 abbrev pub Need : (G : Arena) (m : ℕ) (s : State) (k : ℕ) → Type 0
 Need G m s k = Smallest G (Reaching G s) (λ j p. Opens (holds G) j p ⊎ Resumes (holds G) m p) k
 
@@ -53,11 +53,11 @@ Meets G s [] = ⊥
 Meets G s (a ∷ p) =
     (goal G (entered G s a) ≡ false) × (Won Fair G (entered G s a) → ⊥) × ((holds G (a .input) ≡ true) ⊎ Meets G (entered G s a) p)
 
--- fair: d is the distance of state s, the fewest steps in which the environment can force the condition without a goal or a state lost to it
+-- fair: d is the distance of state s, the fewest steps after which by some way of the environment every play from s has met the condition so
 abbrev pub Distance : (G : Arena) (s : State) (d : ℕ) → Type 0
 Distance G s d = Fewest G (λ k p. length p ≡ k → Meets G s p) d
 
--- stable: c is the count of state s, the fewest steps without the condition to which the environment can hold a play from s, without a goal.
--- The specification calls it the state's number
+-- stable: c is the count of state s, the smallest number such that by some way of the environment no play from s reaches a goal, and each has at most c steps
+-- that lack the condition
 abbrev pub Count : (G : Arena) (s : State) (c : ℕ) → Type 0
 Count G s c = Fewest G (λ k p. (reaches G s p ≡ false) × (count (lacks G) p ≤ k)) c

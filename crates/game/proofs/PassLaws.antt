@@ -1,4 +1,4 @@
--- Laws of the passes that give inner ranks: before the first, one more state, and after the last.
+-- Laws of the passes that give inner ranks: before the first, one more state, after each, and after the last.
 -- Assumes nothing.
 use mathlib.Core.Path.{_≡_, refl, sym, ap, _∙_, subst}
 use mathlib.Core.Bool.{Bool, true, false, not}
@@ -11,12 +11,12 @@ use Rattle.game.specs.inner.Limits.{rankLimit}
 use Rattle.plays.specs.Arena.{Arena}
 use Rattle.game.specs.inner.Game.{Valid}
 use Rattle.game.specs.inner.Serving.{rankedBelow}
-use Rattle.game.specs.inner.Rounds.{Unranked, Attracts, Keeps, InnerRanks, Passed, Attraction}
+use Rattle.game.specs.inner.Rounds.{Unranked, Attracts, Keeps, InnerRanks, Stayed, Passed, Attraction}
 use Rattle.plays.proofs.CaseLaws.{zero-or, same-or}
 use Rattle.game.proofs.LimitLaws.{none-below, not-below, below-none, same-below}
 use Rattle.game.proofs.ForcingLaws.{favorable-map}
 
--- before the first pass
+-- before the first pass there are no ranks
 pub no-ranks : {fair : Bool} {G : Arena} {outer : List ℕ} (inner : List ℕ) → ((t : ℕ) → getD inner t 0 ≡ 0) → InnerRanks fair G outer inner 1
 no-ranks inner z =
     record {
@@ -26,14 +26,20 @@ no-ranks inner z =
       forced = λ s p. let e = z s in absurd (let q : ⊥ = omega arith in q);
     }
 
+-- and no pass left out a state
+pub no-passes : (fair : Bool) (G : Arena) (outer inner : List ℕ) → Stayed fair G outer inner 1
+no-passes fair G outer inner s p l z pos lt up = absurd (let q : ⊥ = omega arith in q)
+
 wider : {fair : Bool} {G : Arena} {outer inner : List ℕ} {k : ℕ} (n : ℕ) → k ≤ n → InnerRanks fair G outer inner k → InnerRanks fair G outer inner n
 wider n le h = record { apart = h .apart; within = h .within; below = λ t. omega (arith, h .below t); forced = h .forced }
 
 -- a pass before its first state
-pub pass-starts : {fair : Bool} {G : Arena} {outer inner : List ℕ} {p : ℕ} → InnerRanks fair G outer inner p → Passed fair G outer inner inner p 0 false
-pass-starts {p = p} h =
+pub pass-starts : {fair : Bool} {G : Arena} {outer inner : List ℕ} {p : ℕ} → InnerRanks fair G outer inner p → Stayed fair G outer inner p
+    → Passed fair G outer inner inner p 0 false
+pass-starts {p = p} h stayed =
     record {
       ranks = wider (p + 1) (omega arith) h;
+      stayed = stayed;
       keeps = λ s l. absurd (let z : ⊥ = omega arith in z);
       extends = λ t l. refl;
       more = λ e. absurd (mathlib.Core.Bool.false≢true e);
@@ -47,6 +53,7 @@ module _ {fair : Bool} {G : Arena} {outer old inner : List ℕ} {p k : ℕ} {gav
   pass-stays here =
       record {
         ranks = so-far .ranks;
+        stayed = so-far .stayed;
         keeps = λ s l. same-or s k
             (λ e. subst (λ (i : ℕ). Unranked outer inner i → Keeps fair G outer inner p i) (sym e) here)
             (λ d. so-far .keeps s (omega arith));
@@ -81,10 +88,10 @@ module _ {fair : Bool} {G : Arena} {outer old inner : List ℕ} {p k : ℕ} {gav
         favorable-map v (not fair) s (rankedBelow q inner) (rankedBelow rankLimit outer) (rankedBelow q new) (rankedBelow rankLimit outer) l
         (λ t e. earlier q le t ∙ e) (λ t e. e)
 
-    keeps : (s : ℕ) → s < G .states → Keeps fair G outer inner p s → Keeps fair G outer new p s
-    keeps s l =
-        favorable-map v fair s (rankedBelow rankLimit outer) (rankedBelow p inner) (rankedBelow rankLimit outer) (rankedBelow p new) l
-        (λ t e. e) (λ t e. earlier p (omega arith) t ∙ e)
+    keeps : (q : ℕ) → q ≤ p → (s : ℕ) → s < G .states → Keeps fair G outer inner q s → Keeps fair G outer new q s
+    keeps q le s l =
+        favorable-map v fair s (rankedBelow rankLimit outer) (rankedBelow q inner) (rankedBelow rankLimit outer) (rankedBelow q new) l
+        (λ t e. e) (λ t e. earlier q le t ∙ e)
 
     -- a state's certificate speaks of the ranks below its own
     forced : (u : ℕ) → 0 < getD new u 0 → Attracts fair G outer new (getD new u 0) u
@@ -112,6 +119,15 @@ module _ {fair : Bool} {G : Arena} {outer old inner : List ℕ} {p k : ℕ} {gav
           forced = forced;
         }
 
+    -- a state that an earlier pass left out was left out before this state got its rank
+    stayed : Stayed fair G outer new p
+    stayed s q l z pos lt up =
+        keeps q (omega arith) s l
+        (so-far .stayed s q l z pos lt
+        (λ h.
+        let o = other s (λ e. let w = ap (λ (j : ℕ). getD inner j 0) e in let z′ : ⊥ = omega (arith, un .1) in z′) in
+        omega (arith, up (omega arith))))
+
     -- a state without a rank is another one, and was without one
     was : (s : ℕ) → Unranked outer new s → (s ≡ k → ⊥) × Unranked outer inner s
     was s z =
@@ -122,11 +138,12 @@ module _ {fair : Bool} {G : Arena} {outer old inner : List ℕ} {p k : ℕ} {gav
     pass-gains =
         record {
           ranks = ranks;
+          stayed = stayed;
           keeps = λ s l z.
               let w = was s z in
               let d = w .0 in
               let l′ : s < k = omega arith in
-              keeps s (omega arith) (so-far .keeps s l′ (w .1));
+              keeps p (omega arith) s (omega arith) (so-far .keeps s l′ (w .1));
           extends = λ t h.
               let e = so-far .extends t h in
               other t (λ d. let q = ap (λ (j : ℕ). getD inner j 0) d in let z : ⊥ = omega (arith, un .1) in z) ∙ e;
@@ -144,6 +161,16 @@ pub pass-over : {fair : Bool} {G : Arena} {outer old inner : List ℕ} {p k n : 
     → Passed fair G outer old inner p k gave → Passed fair G outer old inner p n gave
 pass-over {fair} {G} {outer} {old} {inner} {p} {gave = gave} e h = subst (λ (i : ℕ). Passed fair G outer old inner p i gave) e h
 
+-- after a pass over all states: those that it left out have no rank yet, and are kept from the ranks below it
+pub pass-stayed : {fair : Bool} {G : Arena} {outer old inner : List ℕ} {p : ℕ} {gave : Bool} → Passed fair G outer old inner p (G .states) gave
+    → Stayed fair G outer inner (p + 1)
+pass-stayed {fair} {G} {outer} {old} {inner} {p} h s q l z pos lt up =
+    same-or q p
+    (λ e.
+    let none = zero-or (getD inner s 0) (λ n. n) (λ n. absurd (let w : ⊥ = omega (arith, up n, h .ranks .below s) in w)) in
+    subst (λ (i : ℕ). Keeps fair G outer inner i s) (sym e) (h .keeps s l (z, none)))
+    (λ d. h .stayed s q l z pos (omega arith) up)
+
 -- after a pass that gave no rank
 pub passes-end : {fair : Bool} {G : Arena} {outer old inner : List ℕ} {p : ℕ} {gave : Bool} → Valid G → p ≤ G .states + 1 → InnerRanks fair G outer old p
     → Passed fair G outer old inner p (G .states) gave → gave ≡ false → Attraction fair G outer inner
@@ -151,6 +178,9 @@ passes-end {fair} {G} {outer} {old} {inner} {p} v le i last e =
     let i′ = subst (λ (l : List ℕ). InnerRanks fair G outer l p) (sym (last .none e)) i in
     record {
       ranks = wider (G .states + 1) le i′;
+      stayed = λ s q pos lt.
+          let none = zero-or (getD outer s 0) (λ n. n) (λ n. absurd (let w : ⊥ = omega (arith, i′ .apart s n) in w)) in
+          last .stayed s q (i′ .within s (omega arith)) none pos (omega (arith, i′ .below s)) (λ h. lt);
       keeps = λ s l z.
           favorable-map v fair s (rankedBelow rankLimit outer) (rankedBelow p inner) (rankedBelow rankLimit outer) (rankedBelow rankLimit inner) l
           (λ t w. w) (λ t d. none-below rankLimit inner t (below-none p inner t d (i′ .below t))) (last .keeps s l z);

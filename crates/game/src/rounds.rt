@@ -12,7 +12,7 @@ ghost use Prim.Native.Nat.{_<_, _≤_};
 ghost use lib.ListN.{length};
 ghost use Rattle.automaton.specs.Limits.{stateLimit};
 ghost use Rattle.game.specs.inner.Game.{arenaOf, Valid};
-ghost use Rattle.game.specs.inner.Rounds.{Unranked, Apart, Attracted, InnerRanks, Passed, Attraction, Promoted, Found};
+ghost use Rattle.game.specs.inner.Rounds.{Unranked, Apart, Attracted, InnerRanks, Stayed, Passed, Attraction, Promoted, Found};
 
 // The ranks of both players, 0 for none.
 pub struct Ranks {
@@ -83,6 +83,7 @@ fn pass(
 ) -> bool
     requires { ⌜ Valid (arenaOf g (now transitions) (now accepting)) ⌝ }
     requires { ⌜ InnerRanks (g .fair) (arenaOf g (now transitions) (now accepting)) (now outer) (now inner) p ⌝ }
+    requires { ⌜ Stayed (g .fair) (arenaOf g (now transitions) (now accepting)) (now outer) (now inner) p ⌝ }
     requires { ⌜ length (now inner) ≡ stateLimit ⌝ }
     ensures { λ r. ⌜ Passed (g .fair) (arenaOf g (now (transitions .entry)) (now (accepting .entry)))
         (now (outer .entry)) (now (inner .entry)) (now (inner .exit)) p (g .states) r ⌝ }

@@ -1,5 +1,5 @@
--- `game::rounds::inner_ranks` meets its contract. The invariant: the ranks are those of the passes before p, and at least p - 1 states have one.
--- The measure is the number of passes that there can still be.
+-- `game::rounds::inner_ranks` meets its contract. The invariant: the ranks are those of the passes before p, a state that a pass left out stays
+-- kept from the ranks below that pass, and at least p - 1 states have a rank. The measure is the number of passes that there can still be.
 -- Assumes nothing.
 use mathlib.Core.Path.{_≡_, refl}
 use Prim.Native.Nat.{_+_, _-_, _<_, _≤_}
@@ -10,16 +10,17 @@ use denote.Ref.{now}
 use Rattle.automaton.specs.Limits.{stateLimit}
 use Rattle.plays.specs.Arena.{Arena}
 use Rattle.game.specs.inner.Game.{arenaOf}
-use Rattle.game.specs.inner.Rounds.{InnerRanks}
+use Rattle.game.specs.inner.Rounds.{InnerRanks, Stayed}
 use Rattle.game.proofs.CountLaws.{rankedCount, count-bound, count-more}
 use Rattle.game.proofs.LimitLaws.{zeros}
-use Rattle.game.proofs.PassLaws.{no-ranks, passes-end}
+use Rattle.game.proofs.PassLaws.{no-ranks, no-passes, pass-stayed, passes-end}
 use Rattle.game.proofs.rounds.inner_ranks.Statement.{statement}
 use Rattle.game.proofs.rounds.inner_ranks.Tie as tie
 
 abbrev Inv-loop : tie.InvT-loop
 Inv-loop g transitions accepting outer witness₀ inner₀ p₀ witness inner p =
-    InnerRanks (g .fair) (arenaOf g transitions accepting) outer inner p × (p ≤ rankedCount inner (g .states) + 1) × (length inner ≡ stateLimit)
+    InnerRanks (g .fair) (arenaOf g transitions accepting) outer inner p × Stayed (g .fair) (arenaOf g transitions accepting) outer inner p
+    × (p ≤ rankedCount inner (g .states) + 1) × (length inner ≡ stateLimit)
 
 abbrev μ-loop : tie.MeasureT-loop
 μ-loop g transitions accepting outer witness₀ inner₀ p₀ witness inner p = g .states + 1 - p
@@ -46,14 +47,15 @@ inner-ranks-spec =
     μ-loop
     (λ c.
     let z = c .before .before in
-    (no-ranks (replicate stateLimit 0) (zeros stateLimit), search needs, refl))
+    let inner = replicate stateLimit 0 in
+    (no-ranks inner (zeros stateLimit), no-passes (z .args .g .fair) (G z) (now (z .args .outer)) inner, search needs, refl))
     (λ c κs.
     let z = c .before .before .before .before .before in
     let l = c .before .before .loop in
-    (z .pre, (l .inv .0, l .inv .2)))
+    (z .pre, (l .inv .0, (l .inv .1, l .inv .3))))
     (λ c. omega (arith, more c, c .before .before .before .before .before .before .before .pre .moving .states-fit))
     (λ c. omega (arith, more c))
-    (λ c. (c .before .pass .ensures .0 .ranks, omega (arith, more c), c .before .pass .ensures .1))
+    (λ c. let e = c .before .pass .ensures in (e .0 .ranks, pass-stayed (e .0), omega (arith, more c), e .1))
     (λ c.
     let z = c .before .before .before .before .before .before .before in
     let l = c .before .before .before .before .loop in

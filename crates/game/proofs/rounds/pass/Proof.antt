@@ -54,7 +54,7 @@ pass-spec =
     (tie.spec
     Inv-loop
     μ-loop
-    (λ c. let z = c .before .before in (search needs, pass-starts (z .pre .1 .0), z .pre .1 .1))
+    (λ c. let z = c .before .before in (search needs, pass-starts (z .pre .1 .0) (z .pre .1 .1 .0), z .pre .1 .1 .1))
     (λ c κs.
     let z = c .before .before .before .before .before .before in
     (z .pre .0, (c .before .before .loop-test .taken, c .before .before .before .loop .inv .1 .ranks .apart)))

@@ -1,5 +1,6 @@
--- Where the system is beaten. Fair, what a round leaves out: where the environment has an inner rank, a budget does not help that is one above those with which
--- the system is beaten on every state without an outer rank. Stable, after the last round: with every budget below the system's inner rank.
+-- Where the system is beaten. Fair, what a round leaves out: where the environment has an inner rank, a budget does not help that is one above those with
+-- which the system is beaten on every state without an outer rank. Stable, after the last round: with every budget below the system's inner rank, and with
+-- every one where it has none.
 -- Assumes nothing.
 use mathlib.Core.Path.{_≡_, refl, subst, ap}
 use mathlib.Core.Bool.{Bool, true, false, not}

@@ -1,4 +1,4 @@
--- Laws of the rounds that give outer ranks: before the first, one more round, and after the last.
+-- Laws of the rounds that give outer ranks: before the first, one more round, and after the last, when both players' ranks are exact.
 -- Assumes nothing.
 use mathlib.Core.Path.{_≡_, sym, subst}
 use mathlib.Core.Bool.{Bool, true, false, not}
@@ -14,7 +14,7 @@ use Rattle.plays.specs.inner.Beaten.{Beaten, over, Outplayed, spent}
 use Rattle.plays.specs.inner.Exact.{ExactRounds, ExactDistances, ExactNeeds, ExactCounts}
 use Rattle.game.specs.inner.Game.{Valid}
 use Rattle.game.specs.inner.Serving.{rankedBelow}
-use Rattle.game.specs.inner.Rounds.{Unranked, Favorable, Keeps, Grows, Attraction, Promoted, Found}
+use Rattle.game.specs.inner.Rounds.{Unranked, Favorable, Grows, Attraction, Promoted, Found}
 use Rattle.plays.proofs.CaseLaws.{zero-or, below-or}
 use Rattle.game.proofs.LimitLaws.{ranked-below, below-none, not-lower}
 use Rattle.game.proofs.ForcingLaws.{forces-map}
@@ -96,6 +96,10 @@ module _ {fair : Bool} {G : Arena} (v : Valid G) {outer inner : List ℕ} {r : �
   small : r ≤ G .states + 1 → (t : ℕ) → getD outer t 0 < rankLimit
   small le t = omega (arith, so-far .below t, v .moving .states-fit)
 
+  -- the inner ranks in a known mode
+  in-mode : (mode : Bool) → fair ≡ mode → Attraction mode G outer inner
+  in-mode mode e = subst (λ (f : Bool). Attraction f G outer inner) e at
+
   -- one more round
   module _ {new : List ℕ} {gave : Bool} (pro : Promoted (G .states) r outer inner new gave) where
     new-below : (t : ℕ) → getD new t 0 < r + 1
@@ -139,7 +143,7 @@ module _ {fair : Bool} {G : Arena} (v : Valid G) {outer inner : List ℕ} {r : �
         (λ x t tl d. let o = pro .extends t (d .0) in (omega (arith, d .0), (λ h. omega (arith, d .1 h)), (λ h. omega (arith, d .2 h))))
         (so-far .forced u w)
 
-    -- where a loss with the budget r on every state with an inner rank follows from those with less where there is no outer rank
+    -- a loss with all that is short goes on by one budget, where the states with an inner rank are lost with r once those without an outer rank are with r - 1
     short-more : {L : ℕ → ℕ → Type 0} → Short L (G .states) outer r
         → (((t : ℕ) → t < G .states → getD outer t 0 ≡ 0 → L t (r - 1)) → (s : ℕ) → s < G .states → 0 < getD inner s 0 → L s r)
         → Short L (G .states) new (r + 1)
@@ -163,8 +167,8 @@ module _ {fair : Bool} {G : Arena} (v : Valid G) {outer inner : List ℕ} {r : �
               zero-or (getD outer u 0)
               (λ e. new-forced u (new-within u p) (e, zero-or (getD inner u 0) (λ f. f) (λ w. omega (arith, pro .other u w))))
               (old-forced u);
-          beaten = λ e m. short-more (so-far .beaten e m) (inner-beaten v (small le) (subst (λ (f : Bool). Attraction f G outer inner) e at));
-          outplayed = λ e. short-more (so-far .outplayed e) (inner-outplayed v (small le) (subst (λ (f : Bool). Attraction f G outer inner) e at));
+          beaten = λ e m. short-more (so-far .beaten e m) (inner-beaten v (small le) (in-mode true e));
+          outplayed = λ e. short-more (so-far .outplayed e) (inner-outplayed v (small le) (in-mode false e));
         }
 
     pub round-grows : gave ≡ true → Grows (G .states) outer new
@@ -195,19 +199,18 @@ module _ {fair : Bool} {G : Arena} (v : Valid G) {outer inner : List ℕ} {r : �
     -- fair: a pass before the one that gave a state its inner rank left it out
     exact-distances : fair ≡ true → ExactDistances G inner
     exact-distances e s p some lt =
-        let kept : Keeps true G outer inner p s = subst (λ (f : Bool). Keeps f G outer inner p s) e (at .stayed s p some lt) in
         forces-map v true s (Favorable G true (rankedBelow rankLimit outer) (rankedBelow p inner))
         (λ x t. (0 < getD inner t 0 → p ≤ getD inner t 0) × (holds G x ≡ true → getD inner t 0 ≡ 0)) (at .ranks .within s (omega arith))
         (λ x t tl d. (not-lower p inner t (d .0), λ h. at .ranks .apart t (ranked-below rankLimit outer t (d .1 h) .0)))
-        kept
+        (in-mode true e .stayed s p some lt)
 
+    -- stable: so the system is beaten with less
     exact-needs : fair ≡ false → ExactNeeds G (G .states) inner
     exact-needs e =
         record {
           ranked = subst (λ (f : Bool). Ranked G (not f) false (G .states) inner) e inner-ranked;
           beaten = λ s k l h.
-              needs-beaten v (subst (λ (f : Bool). Attraction f G outer inner) e at)
-              (subst (λ (f : Bool). Ranked G f true (G .states) outer) e outer-ranked) total k s l h;
+              needs-beaten v (in-mode false e) (subst (λ (f : Bool). Ranked G f true (G .states) outer) e outer-ranked) total k s l h;
         }
 
     certified : Certified fair G outer inner

@@ -9,6 +9,7 @@ pub mod AttractionLaws
 pub mod PassLaws
 pub mod PromotionLaws
 pub mod BeatenRounds
+pub mod OutplayedRounds
 pub mod OuterRankLaws
 pub mod LiftLaws
 pub mod HeightLaws

@@ -10,7 +10,7 @@ use lib.ListN.{getD, replicate}
 use borrow.Author.Tests.{eq-eqb, ne-eqb, ltb-true, ltb-false, lt-ltb}
 use Rattle.game.specs.inner.Serving.{rankedBelow}
 use Rattle.reader.proofs.BoolLaws.{on, clash, not-true→, and-true, nonzero}
-use Rattle.plays.proofs.CaseLaws.{zero-or}
+use Rattle.plays.proofs.CaseLaws.{zero-or, below-or}
 
 -- no state has a rank in a list of zeros
 pub zeros : (n t : ℕ) → getD (replicate {A = ℕ} n 0) t 0 ≡ 0
@@ -48,6 +48,10 @@ module _ (limit : ℕ) (r : List ℕ) (t : ℕ) where
   pub not-below : limit ≤ getD r t 0 → rankedBelow limit r t ≡ false
   not-below h =
       on (rankedBelow limit r t) (λ e. let p = ranked-below e in absurd (let z : ⊥ = omega arith in z)) (λ e. e)
+
+  -- and a rank that is not below the limit is no lower than it
+  pub not-lower : rankedBelow limit r t ≡ false → 0 < getD r t 0 → limit ≤ getD r t 0
+  not-lower e p = below-or (getD r t 0) limit (λ l. clash (rankedBelow limit r t) (below-ranked p l) e) (λ l. l)
 
   -- where none is below a limit that is above all ranks, there is no rank
   pub below-none : rankedBelow limit r t ≡ false → getD r t 0 < limit → getD r t 0 ≡ 0

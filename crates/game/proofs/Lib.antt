@@ -16,6 +16,7 @@ pub mod HeightLaws
 pub mod NarrowLaws
 pub mod SolutionLaws
 pub mod TableLaws
+pub mod EntryFilled
 pub mod StrategyLaws
 pub mod CheckLaws
 pub mod RefusalLaws

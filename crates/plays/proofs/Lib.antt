@@ -9,3 +9,5 @@ pub mod WayLaws
 pub mod BeatenLaws
 pub mod RoundLaws
 pub mod KeyLaws
+pub mod WinLaws
+pub mod NumberLaws

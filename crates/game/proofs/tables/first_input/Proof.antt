@@ -18,11 +18,11 @@ use Rattle.game.proofs.tables.first_input.Statement.{statement}
 use Rattle.game.proofs.tables.first_input.Tie as tie
 
 abbrev Inv-loop : tie.InvT-loop
-Inv-loop g transitions accepting ranks own s inputs steady x₀ x =
+Inv-loop g transitions accepting ranks own s inputs steady most x₀ x =
     (x ≤ g .inputs) × ((k : ℕ) → k < x → AllowedInput (g .fair) (arenaOf g transitions accepting) ranks s k → ⊥)
 
 abbrev μ-loop : tie.MeasureT-loop
-μ-loop g transitions accepting ranks own s inputs steady x₀ x = g .inputs - x
+μ-loop g transitions accepting ranks own s inputs steady most x₀ x = g .inputs - x
 
 abbrev G : tie.Start Inv-loop μ-loop → Arena
 G c = arenaOf (c .args .g) (now (c .args .transitions)) (now (c .args .accepting))
@@ -37,38 +37,39 @@ first-input-spec =
     (tie.spec
     Inv-loop
     μ-loop
+    (λ c. omega (arith, c .before .before .before .before .pre .0 .moving .states-fit))
     (λ c. (search needs, below-none _))
-    (λ c κs. omega (arith, c .before .before .before .before .before .pre .0 .moving .inputs-fit))
-    (λ c κs. c .before .before .before .before .before .before .pre .1 .1 .1)
+    (λ c κs. omega (arith, c .before .before .before .before .before .before .pre .0 .moving .inputs-fit))
+    (λ c κs. c .before .before .before .before .before .before .before .pre .1 .1 .1)
     (λ c κs.
-    let z = c .before .before .before .before .before .before .before in
+    let z = c .before .before .before .before .before .before .before .before in
     (z .pre .0, (z .pre .1 .1 .0, c .before .before .loop-test .taken)))
     (λ c.
     let at = c .before .before .before in
-    let z = at .before .before .before .before .before .before in
+    let z = at .before .before .before .before .before .before .before in
     let x = at .before .before .loop .x in
     let b = at .has-condition in
     let m = c .before .before .limit in
     input-is-byte (z .args .g .fair) (G z) (now (z .args .ranks)) (z .args .s) x (has-rank z)
-    (every-allowed (z .args .g .fair) (G z) (z .pre .0 .moving .states-fit) (now (z .args .ranks)) (z .pre .1 .0) (z .args .s) x (has-rank z)
-    (not (b .result)) (ap not (b .ensures)) (m .result) (m .ensures ∙ ap (λ (n : ℕ). limitOf (not (z .args .g .fair)) (not (b .result)) n) (z .pre .1 .1 .2))
-    (at .before .loop-test .taken) (c .before .is-safe .ensures .safe (c .if1 .taken))))
-    (λ c. omega (arith, c .before .before .before .before .before .before .before .before .before .pre .0 .moving .inputs-fit))
+    (every-allowed (z .args .g .fair) (G z) (now (z .args .ranks)) (z .args .s) x
+    (not (b .result)) (ap not (b .ensures)) (m .result) (m .ensures ∙ ap (λ (n : ℕ). limitOf (not (z .args .g .fair)) (z .args .g .states) (not (b .result)) n) (z .pre .1 .1 .2))
+    (at .before .loop-test .taken) (c .before .is-safe .ensures .safe (c .if1 .taken))) (at .before .before .loop .inv .1))
+    (λ c. omega (arith, c .before .before .before .before .before .before .before .before .before .before .pre .0 .moving .inputs-fit))
     (λ c. omega arith)
     (λ c.
     let at = c .before .before .before in
-    let z = at .before .before .before .before .before .before in
+    let z = at .before .before .before .before .before .before .before in
     let l = at .before .before .loop in
     let b = at .has-condition in
     let m = c .before .before .limit in (
       omega arith,
       below-more _ _ (l .inv .1)
           (λ h. c .before .is-safe .ensures .unsafe (c .if1 .left)
-          (allowed-every (z .args .g .fair) (G z) (z .pre .0 .moving .states-fit) (now (z .args .ranks)) (z .pre .1 .0) (z .args .s) (l .x) (has-rank z)
+          (allowed-every (z .args .g .fair) (G z) (now (z .args .ranks)) (z .args .s) (l .x)
           (not (b .result)) (ap not (b .ensures)) (m .result)
-          (m .ensures ∙ ap (λ (n : ℕ). limitOf (not (z .args .g .fair)) (not (b .result)) n) (z .pre .1 .1 .2)) h)),
+          (m .ensures ∙ ap (λ (n : ℕ). limitOf (not (z .args .g .fair)) (z .args .g .states) (not (b .result)) n) (z .pre .1 .1 .2)) h)),
     ))
     (λ c.
-    let z = c .before .before .before .before .before in
+    let z = c .before .before .before .before .before .before in
     let w = z .pre .1 .0 .forced (z .args .s) (has-rank z) in
     absurd (c .before .loop .inv .1 (w .0) (omega (arith, w .1)) (w .1, w .2))))

@@ -147,8 +147,8 @@ module _ (fair : Bool) (G : Arena) (r : List ℕ) (s x : ℕ) (b : Bool) (eb : b
 -- an allowed input is the byte, where no input before it is allowed
 pub input-is-byte : (fair : Bool) (G : Arena) (r : List ℕ) (s x : ℕ) → 0 < getD r s 0 → AllowedInput fair G r s x
     → ((k : ℕ) → k < x → AllowedInput fair G r s k → ⊥) → EnvironmentByte fair G r s x
-input-is-byte fair G r s x p h before =
-    record { none = λ e. let z : ⊥ = omega arith in absurd z; lowest = λ _. record { has = h; lowest = before } }
+input-is-byte fair G r s x p h earlier =
+    record { none = λ e. let z : ⊥ = omega arith in absurd z; lowest = λ _. record { has = h; lowest = earlier } }
 
 -- where a player has no rank it has no move
 pub no-output : (fair : Bool) (G : Arena) (most : ℕ) (r : List ℕ) (s x : ℕ) → getD r s 0 ≡ 0 → SystemByte fair G most r s x noMove

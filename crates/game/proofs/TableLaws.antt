@@ -10,11 +10,11 @@ use lib.Dec.{eqb, ltb, leb}
 use lib.ListN.{length, getD, set}
 use lib.Seq.{getD-set-same, getD-set-other}
 use borrow.Author.Tests.{eqb-true, eqb-false, eq-eqb, ne-eqb, ltb-true, ltb-false, leb-true, leb-false}
-use Rattle.automaton.specs.Limits.{stateLimit}
 use Rattle.plays.specs.Arena.{Arena, next, goal, holds, lacks}
+use Rattle.plays.specs.Entry.{Lowest}
 use Rattle.plays.specs.inner.Rank.{judged, Safe, Falls, Ranked, AllowedInput}
 use Rattle.game.specs.Tables.{noMove}
-use Rattle.game.specs.inner.Bytes.{limitOf, Below, IsBelow, GoodOutput, SomeOutput, EveryOutput, Claim, FirstStop, IsSafe}
+use Rattle.game.specs.inner.Bytes.{limitOf, Below, IsBelow, GoodOutput, LegalOutput, SomeOutput, EveryOutput, Claim, FirstStop, IsSafe}
 use Rattle.game.specs.inner.Bytes.{SystemByte, MixedByte, EnvironmentByte}
 use Rattle.game.proofs.ForcingLaws.{safe-map}
 use Rattle.reader.proofs.BoolLaws.{on, clash}
@@ -67,13 +67,16 @@ module _ (G : Arena) (s x y t : ℕ) (is : t ≡ next G s x y) where
           (λ d. h .outside (on b (λ w. absurd (other-truth b true e w)) (λ w. w)) (below-out d))
       goes-on false e = (goal-out g, below-in (h .inside (on b (λ w. w) (λ w. absurd (other-truth b false e w)))))
 
--- where the system's search ends, if some output is good for it
-pub first-is-good : {G : Arena} {r : List ℕ} {limit s x k : ℕ} → FirstStop G true r limit s x k → SomeOutput G r limit s x
-    → (k < G .outputs) × GoodOutput G true r limit s x k
-first-is-good {G} {k = k} f w =
-    on (ltb k (G .outputs))
-    (λ e. let l = ltb-true k (G .outputs) e in (l, f .here l))
-    (λ e. let l = ltb-false k (G .outputs) e in absurd (f .earlier (w .0) (omega (arith, w .1)) (w .2)))
+-- where the system's search ends is its lowest good output, if it has one
+pub first-is-lowest : {G : Arena} {r : List ℕ} {limit s x k : ℕ} → FirstStop G true r limit s x k → SomeOutput G r limit s x
+    → Lowest (LegalOutput G r limit s x) k
+first-is-lowest {G} {k = k} f w =
+    record {
+      has = on (ltb k (G .outputs))
+          (λ e. let l = ltb-true k (G .outputs) e in (l, f .here l))
+          (λ e. let l = ltb-false k (G .outputs) e in absurd (f .earlier (w .0) (omega (arith, w .1 .0)) (w .1 .1)));
+      lowest = λ y l d. f .earlier y l (d .1);
+    }
 
 -- the environment's search ends at the number of outputs exactly when every output is good for it
 pub all-are-good : {G : Arena} {r : List ℕ} {limit s x k : ℕ} → FirstStop G false r limit s x k → IsSafe G r limit s x (eqb k (G .outputs))
@@ -95,71 +98,71 @@ some-rank r limit t e =
       outside = λ h b. let z : ⊥ = omega (arith, leb-false (getD r t 0) limit h, b .1) in z;
     }
 
--- a rank falls as it should exactly when it is below the limit
-pub falls-limit : (G : Arena) (player steady : Bool) (r : List ℕ) → ((t : ℕ) → getD r t 0 ≤ stateLimit) → (s x t : ℕ) → 0 < getD r s 0 → (b : Bool)
-    → b ≡ judged G player x
-    → Falls G player steady r s x t → Below r (limitOf steady b (getD r s 0)) t
-falls-limit G player steady r h s x t p true e d = (d .0, omega (arith, d .1 (sym e)))
-falls-limit G player true r h s x t p false e d = (d .0, d .2 refl)
-falls-limit G player false r h s x t p false e d = (d .0, omega (arith, h t))
+-- a rank falls as it should exactly when it is below the limit, which is that of the input
+module _ (G : Arena) (player steady : Bool) (most : ℕ) (r : List ℕ) (s x t : ℕ) where
+  falls-limit : (b : Bool) → b ≡ judged G player x → Falls G player steady most r s x t → Below r (limitOf steady most b (getD r s 0)) t
+  falls-limit true e d = (d .0, omega (arith, d .1 (sym e)))
+  falls-limit false e d = (d .0, d .2 (sym e))
 
-pub limit-falls : (G : Arena) (player steady : Bool) (r : List ℕ) (s x t : ℕ) → 0 < getD r s 0 → (b : Bool) → b ≡ judged G player x
-    → Below r (limitOf steady b (getD r s 0)) t → Falls G player steady r s x t
-limit-falls G player steady r s x t p true e d = (d .0, (λ _. omega (arith, d .1)), (λ _. omega (arith, d .1)))
-limit-falls G player true r s x t p false e d = (d .0, (λ h. absurd (mathlib.Core.Bool.false≢true (e ∙ h))), (λ _. d .1))
-limit-falls G player false r s x t p false e d = (d .0, (λ h. absurd (mathlib.Core.Bool.false≢true (e ∙ h))), (λ h. absurd (mathlib.Core.Bool.false≢true h)))
+  limit-falls : (b : Bool) → b ≡ judged G player x → Below r (limitOf steady most b (getD r s 0)) t → Falls G player steady most r s x t
+  limit-falls true e d = (d .0, (λ _. omega (arith, d .0, d .1)), (λ h. absurd (mathlib.Core.Bool.true≢false (e ∙ h))))
+  limit-falls false e d = (d .0, (λ h. absurd (mathlib.Core.Bool.false≢true (e ∙ h))), (λ _. d .1))
 
--- The same on the state that a step enters, for either player, where `limit` is that of the input.
-module _ (G : Arena) (player steady : Bool) (small : G .states ≤ stateLimit) (r : List ℕ) (rk : Ranked G player steady (G .states) r)
-    (s x : ℕ) (p : 0 < getD r s 0) (b : Bool) (eb : b ≡ judged G player x) (limit : ℕ) (el : limit ≡ limitOf steady b (getD r s 0)) where
-  pub safe-limit : (t : ℕ) → Safe G player t (Falls G player steady r s x t) → Safe G player t (Below r limit t)
-  safe-limit t =
-      safe-map G player t
-      (λ d. subst (λ (m : ℕ). Below r m t) (sym el) (falls-limit G player steady r (λ u. omega (arith, rk .bound u)) s x t p b eb d))
+-- the same on the state that a step enters, for either player
+module _ (G : Arena) (player steady : Bool) (most : ℕ) (r : List ℕ) (s x : ℕ) (b : Bool) (eb : b ≡ judged G player x)
+    (limit : ℕ) (el : limit ≡ limitOf steady most b (getD r s 0)) where
+  safe-limit : (t : ℕ) → Safe G player t (Falls G player steady most r s x t) → Safe G player t (Below r limit t)
+  safe-limit t = safe-map G player t (λ d. subst (λ (m : ℕ). Below r m t) (sym el) (falls-limit G player steady most r s x t b eb d))
 
-  pub limit-safe : (t : ℕ) → Safe G player t (Below r limit t) → Safe G player t (Falls G player steady r s x t)
-  limit-safe t = safe-map G player t (λ d. limit-falls G player steady r s x t p b eb (subst (λ (m : ℕ). Below r m t) el d))
+  limit-safe : (t : ℕ) → Safe G player t (Below r limit t) → Safe G player t (Falls G player steady most r s x t)
+  limit-safe t = safe-map G player t (λ d. limit-falls G player steady most r s x t b eb (subst (λ (m : ℕ). Below r m t) el d))
 
--- the system's byte: an output below the limit exists, and any such is allowed
-module _ (fair : Bool) (G : Arena) (small : G .states ≤ stateLimit) (r : List ℕ) (rk : Ranked G true fair (G .states) r) (s x : ℕ) (p : 0 < getD r s 0)
-    (b : Bool) (eb : b ≡ holds G x) (limit : ℕ) (el : limit ≡ limitOf fair b (getD r s 0)) where
-  pub some-output : x < G .inputs → SomeOutput G r limit s x
-  some-output hx =
+-- the system's byte: an output below the limit exists, and the lowest such is the lowest that the ranks allow
+module _ (fair : Bool) (G : Arena) (most : ℕ) (r : List ℕ) (s x : ℕ) (p : 0 < getD r s 0) (b : Bool) (eb : b ≡ holds G x)
+    (limit : ℕ) (el : limit ≡ limitOf fair most b (getD r s 0)) where
+  pub some-output : Ranked G true fair most r → x < G .inputs → SomeOutput G r limit s x
+  some-output rk hx =
       let w = rk .forced s p x hx in
-      (w .0, w .1, safe-limit G true fair small r rk s x p b eb limit el (next G s x (w .0)) (w .2))
+      (w .0, (w .1, safe-limit G true fair most r s x b eb limit el (next G s x (w .0)) (w .2)))
 
-  pub output-is-byte : (y : ℕ) → (y < G .outputs) × GoodOutput G true r limit s x y → SystemByte fair G r s x y
+  pub output-is-byte : (y : ℕ) → Lowest (LegalOutput G r limit s x) y → SystemByte fair G most r s x y
   output-is-byte y h =
       record {
         none = λ e. let z : ⊥ = omega arith in absurd z;
-        allowed = λ _. (h .0, limit-safe G true fair small r rk s x p b eb limit el (next G s x y) (h .1));
+        lowest = λ _. record {
+          has = (h .has .0, limit-safe G true fair most r s x b eb limit el (next G s x y) (h .has .1));
+          lowest = λ c l d. h .lowest c l (d .0, safe-limit G true fair most r s x b eb limit el (next G s x c) (d .1));
+        };
       }
 
 -- the environment's byte: an input all whose outputs are below the limit is allowed, and any other is not
-module _ (fair : Bool) (G : Arena) (small : G .states ≤ stateLimit) (r : List ℕ) (rk : Ranked G false (not fair) (G .states) r) (s x : ℕ) (p : 0 < getD r s 0)
-    (b : Bool) (eb : b ≡ lacks G x) (limit : ℕ) (el : limit ≡ limitOf (not fair) b (getD r s 0)) where
+module _ (fair : Bool) (G : Arena) (r : List ℕ) (s x : ℕ) (b : Bool) (eb : b ≡ lacks G x)
+    (limit : ℕ) (el : limit ≡ limitOf (not fair) (G .states) b (getD r s 0)) where
   pub allowed-every : AllowedInput fair G r s x → EveryOutput G r limit s x
-  allowed-every h y l = safe-limit G false (not fair) small r rk s x p b eb limit el (next G s x y) (h .1 y l)
+  allowed-every h y l = safe-limit G false (not fair) (G .states) r s x b eb limit el (next G s x y) (h .1 y l)
 
   pub every-allowed : x < G .inputs → EveryOutput G r limit s x → AllowedInput fair G r s x
-  every-allowed hx h = (hx, λ y l. limit-safe G false (not fair) small r rk s x p b eb limit el (next G s x y) (h y l))
+  every-allowed hx h = (hx, λ y l. limit-safe G false (not fair) (G .states) r s x b eb limit el (next G s x y) (h y l))
 
-pub input-is-byte : (fair : Bool) (G : Arena) (r : List ℕ) (s x : ℕ) → 0 < getD r s 0 → AllowedInput fair G r s x → EnvironmentByte fair G r s x
-input-is-byte fair G r s x p h = record { none = λ e. let z : ⊥ = omega arith in absurd z; allowed = λ _. h }
+-- an allowed input is the byte, where no input before it is allowed
+pub input-is-byte : (fair : Bool) (G : Arena) (r : List ℕ) (s x : ℕ) → 0 < getD r s 0 → AllowedInput fair G r s x
+    → ((k : ℕ) → k < x → AllowedInput fair G r s k → ⊥) → EnvironmentByte fair G r s x
+input-is-byte fair G r s x p h earlier =
+    record { none = λ e. let z : ⊥ = omega arith in absurd z; lowest = λ _. record { has = h; lowest = earlier } }
 
 -- where a player has no rank it has no move
-pub no-output : (fair : Bool) (G : Arena) (r : List ℕ) (s x : ℕ) → getD r s 0 ≡ 0 → SystemByte fair G r s x noMove
-no-output fair G r s x e = record { none = λ _. refl; allowed = λ p. let z : ⊥ = omega arith in absurd z }
+pub no-output : (fair : Bool) (G : Arena) (most : ℕ) (r : List ℕ) (s x : ℕ) → getD r s 0 ≡ 0 → SystemByte fair G most r s x noMove
+no-output fair G most r s x e = record { none = λ _. refl; lowest = λ p. let z : ⊥ = omega arith in absurd z }
 
 pub no-input : (fair : Bool) (G : Arena) (r : List ℕ) (s : ℕ) → getD r s 0 ≡ 0 → EnvironmentByte fair G r s noMove
-no-input fair G r s e = record { none = λ _. refl; allowed = λ p. let z : ⊥ = omega arith in absurd z }
+no-input fair G r s e = record { none = λ _. refl; lowest = λ p. let z : ⊥ = omega arith in absurd z }
 
 -- the system's byte by two ranks is its byte by the near ones where the state has one, and else by the far ones
-module _ {fair : Bool} {G : Arena} {near far : List ℕ} {s x b : ℕ} where
-  pub near-byte : (getD near s 0 ≡ 0 → ⊥) → SystemByte fair G near s x b → MixedByte fair G near far s x b
-  near-byte h d = record { by-near = d .allowed; by-far = λ e. absurd (h e) }
+module _ {fair : Bool} {G : Arena} {m : ℕ} {near far : List ℕ} {s x b : ℕ} where
+  pub near-byte : (getD near s 0 ≡ 0 → ⊥) → SystemByte fair G m near s x b → MixedByte fair G m near far s x b
+  near-byte h d = record { by-near = d .lowest; by-far = λ e. absurd (h e) }
 
-  pub far-byte : getD near s 0 ≡ 0 → SystemByte fair G far s x b → MixedByte fair G near far s x b
+  pub far-byte : getD near s 0 ≡ 0 → SystemByte fair G (G .states) far s x b → MixedByte fair G m near far s x b
   far-byte e d = record { by-near = λ p. let z : ⊥ = omega arith in absurd z; by-far = λ _. d }
 
 -- a list that is filled from the front, by a rule for each index

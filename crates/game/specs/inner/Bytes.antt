@@ -35,7 +35,7 @@ LegalOutput G r limit s x y = (y < G .outputs) × GoodOutput G true r limit s x 
 
 -- some output is good for the system, and every output is good for the environment
 abbrev pub SomeOutput : (G : Arena) (r : List ℕ) (limit : ℕ) (s : State) (x : Input) → Type 0
-SomeOutput G r limit s x = (y : ℕ) × (y < G .outputs) × GoodOutput G true r limit s x y
+SomeOutput G r limit s x = (y : ℕ) × LegalOutput G r limit s x y
 
 abbrev pub EveryOutput : (G : Arena) (r : List ℕ) (limit : ℕ) (s : State) (x : Input) → Type 0
 EveryOutput G r limit s x = (y : ℕ) → y < G .outputs → GoodOutput G false r limit s x y

@@ -14,7 +14,7 @@ decide-spec =
     let s = c .before .before .before .before .before .before .before .before in
     let p = s .before .before .before .before .before .pre in
     let f = s .solve .ensures in
-    (p .0, (f .near-ranked, (f .ranking, (p .1 .1 .0, p .1 .1 .2, p .1 .1 .3)))))
+    (p .0, (f .near-ranked, (f .found .ranking, (p .1 .1 .0, p .1 .1 .2, p .1 .1 .3)))))
     (λ c. search needs)
     (λ c. search needs)
     (λ c. search needs)
@@ -22,4 +22,4 @@ decide-spec =
     let f = c .before .before .before .before .before in
     let s = f .before .before .before .before .before .before .before .before .before in
     let p = s .before .before .before .before .before .pre in
-    filled (p .0 .moving .states-fit) (s .solve .ensures) (f .fill .ensures .0) (f .fill .ensures .1) (p .1 .1 .1)))
+    filled (p .0 .moving .states-fit) (s .solve .ensures) (f .fill .ensures .0) (f .fill .ensures .1) (p .0) (p .1 .1 .0) (p .1 .1 .1)))

@@ -31,5 +31,5 @@ environment-byte-spec =
     (λ c.
     let z = c .before .before .before .before .before in
     let p = positive (getD (now (z .args .ranks)) (z .args .s) 0) (c .before .if1 .left) in
-    omega (arith, c .first-input .ensures .allowed p .0, z .pre .0 .moving .inputs-fit))
+    omega (arith, c .first-input .ensures .lowest p .has .0, z .pre .0 .moving .inputs-fit))
     (λ c. search needs))

@@ -17,14 +17,14 @@ use Rattle.game.proofs.tables.fill_system.Statement.{statement}
 use Rattle.game.proofs.tables.fill_system.Tie as tie
 
 abbrev Inv-loop : tie.InvT-loop
-Inv-loop g transitions accepting near far system₀ inputs total k₀ system k =
+Inv-loop g transitions accepting m near far system₀ inputs total k₀ system k =
     (k ≤ stateLimit * g .inputs)
-    × ((j : ℕ) → j < k → MixedByte (g .fair) (arenaOf g transitions accepting) near far (j / g .inputs) (j % g .inputs) (getD system j 0))
+    × ((j : ℕ) → j < k → MixedByte (g .fair) (arenaOf g transitions accepting) m near far (j / g .inputs) (j % g .inputs) (getD system j 0))
     × ((j : ℕ) → k ≤ j → getD system j 0 ≡ getD system₀ j 0)
     × (length system ≡ length system₀)
 
 abbrev μ-loop : tie.MeasureT-loop
-μ-loop g transitions accepting near far system₀ inputs total k₀ system k = stateLimit * g .inputs - k
+μ-loop g transitions accepting m near far system₀ inputs total k₀ system k = stateLimit * g .inputs - k
 
 pub fill-system-spec : {M : Type 1} → statement M
 fill-system-spec =
@@ -49,7 +49,7 @@ fill-system-spec =
     let b = c .mixed-byte in
     let fits : l .k < length (l .system) = omega (arith, z .pre .1 .1 .1) in
     let P : ℕ → ℕ → Type 0 = λ k v. MixedByte (z .args .g .fair) (arenaOf (z .args .g) (now (z .args .transitions)) (now (z .args .accepting)))
-    (now (z .args .near)) (now (z .args .far)) (k / z .args .g .inputs) (k % z .args .g .inputs) v in (
+    (z .args .m) (now (z .args .near)) (now (z .args .far)) (k / z .args .g .inputs) (k % z .args .g .inputs) v in (
       omega arith,
       fill-below P (now (z .args .system)) (l .system) (l .k) (b .result) fits (l .inv .1) (b .ensures),
       fill-rest P (now (z .args .system)) (l .system) (l .k) (b .result) fits (l .inv .2),

@@ -72,8 +72,9 @@ fn first_stop(
     ensures { λ r. ⌜ FirstStop (arenaOf g (now (transitions .entry)) (now (accepting .entry))) player (now (ranks .entry)) most s x r ⌝ }
 {
     let outputs = g.outputs;
-    let mut y: usize = 0;
-    while y < outputs {
+    let mut left = outputs;
+    while 0 < left {
+        let y = outputs - left;
         let t = enters(g, transitions, s, x, y);
         if accepting[t] != 0 {
             return y;
@@ -81,9 +82,9 @@ fn first_stop(
         if is_below(ranks, most, t) == player {
             return y;
         }
-        y += 1;
+        left -= 1;
     }
-    y
+    outputs
 }
 
 // The first output that enters a goal or a state whose rank is at most `most`.
@@ -214,8 +215,9 @@ fn mixed_byte(
     ensures { λ r. ⌜ MixedByte (g .fair) (arenaOf g (now (transitions .entry)) (now (accepting .entry))) m
         (now (near .entry)) (now (far .entry)) s x r ⌝ }
 {
+    let n = g.states as Rank;
     if near[s] == 0 {
-        return system_byte(g, transitions, accepting, g.states as Rank, far, s, x);
+        return system_byte(g, transitions, accepting, n, far, s, x);
     }
     system_byte(g, transitions, accepting, m, near, s, x)
 }

@@ -1,4 +1,5 @@
--- `game::tables::first_stop` meets its contract. Invariant: no output below y ends the player's search. Measure: the outputs left.
+-- `game::tables::first_stop` meets its contract. Invariant: no output before those left ends the player's search. Measure: the
+-- outputs left.
 -- Assumes nothing.
 use borrow.Author.Needs.{needs}
 use native.Mathlib.Omega.{arith}
@@ -14,11 +15,12 @@ use Rattle.game.proofs.tables.first_stop.Statement.{statement}
 use Rattle.game.proofs.tables.first_stop.Tie as tie
 
 abbrev Inv-loop : tie.InvT-loop
-Inv-loop g transitions accepting ranks most player s x outputs y₀ y =
-    (y ≤ g .outputs) × ((k : ℕ) → k < y → Claim (not player) (GoodOutput (arenaOf g transitions accepting) player ranks most s x k))
+Inv-loop g transitions accepting ranks most player s x outputs left₀ left =
+    (left ≤ g .outputs)
+    × ((k : ℕ) → k < g .outputs - left → Claim (not player) (GoodOutput (arenaOf g transitions accepting) player ranks most s x k))
 
 abbrev μ-loop : tie.MeasureT-loop
-μ-loop g transitions accepting ranks most player s x outputs y₀ y = g .outputs - y
+μ-loop g transitions accepting ranks most player s x outputs left₀ left = left
 
 abbrev G : tie.Start Inv-loop μ-loop → Arena
 G c = arenaOf (c .args .g) (now (c .args .transitions)) (now (c .args .accepting))

@@ -9,3 +9,4 @@ pub mod WayLaws
 pub mod BeatenLaws
 pub mod RoundLaws
 pub mod KeyLaws
+pub mod EntryLaws

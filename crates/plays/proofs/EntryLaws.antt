@@ -43,8 +43,7 @@ module _ (G : Arena) (closed : Closed G) where
   output-moved ν ν′ same most most′ e s h x g y (l, _⊎_.inl u) = (l, _⊎_.inl u)
   output-moved ν ν′ same most most′ e s h x g y (l, _⊎_.inr u) =
       let t = same (next G s x y) (closed s x y h g l) in
-      let o = same s h in
-      (
+      let o = same s h in (
         l,
         _⊎_.inr (
           omega (arith, t, u .0),
@@ -55,27 +54,25 @@ module _ (G : Arena) (closed : Closed G) where
 
   fair-moved : (δ δ′ : ℕ → ℕ) → ((t : ℕ) → t < G .states → (Won Fair G t → ⊥) → δ t ≡ δ′ t) → (s : ℕ) → s < G .states → (Won Fair G s → ⊥)
       → (x : ℕ) → FairServes G δ s x → FairServes G δ′ s x
-  fair-moved δ δ′ same s h lost x (l, u) =
-      (
-        l,
-        λ y m.
-            let z = u y m in
-            let t = same (next G s x y) (closed s x y h l m) (z .1) in
-            let o = same s h lost in
-            (z .0, z .1, ⊎-elim (λ c. _⊎_.inl c) (λ d. _⊎_.inr (omega (arith, t, o, d))) (z .2)),
-      )
+  fair-moved δ δ′ same s h lost x (l, u) = (
+    l,
+    λ y m.
+        let z = u y m in
+        let t = same (next G s x y) (closed s x y h l m) (z .1) in
+        let o = same s h lost in
+        (z .0, z .1, ⊎-elim (λ c. _⊎_.inl c) (λ d. _⊎_.inr (omega (arith, t, o, d))) (z .2)),
+  )
 
   stable-moved : (κ κ′ : ℕ → ℕ) → ((t : ℕ) → t < G .states → (Won Stable G t → ⊥) → κ t ≡ κ′ t) → (s : ℕ) → s < G .states → (Won Stable G s → ⊥)
       → (x : ℕ) → StableServes G κ s x → StableServes G κ′ s x
-  stable-moved κ κ′ same s h lost x (l, u) =
-      (
-        l,
-        λ y m.
-            let z = u y m in
-            let t = same (next G s x y) (closed s x y h l m) (z .1) in
-            let o = same s h lost in
-            (z .0, z .1, omega (arith, t, o, z .2), λ c. omega (arith, t, o, z .3 c)),
-      )
+  stable-moved κ κ′ same s h lost x (l, u) = (
+    l,
+    λ y m.
+        let z = u y m in
+        let t = same (next G s x y) (closed s x y h l m) (z .1) in
+        let o = same s h lost in
+        (z .0, z .1, omega (arith, t, o, z .2), λ c. omega (arith, t, o, z .3 c)),
+  )
 
   -- the lowest output that serves by numbers that are the same
   one-output : (ν ν′ : ℕ → ℕ) → ((t : ℕ) → t < G .states → ν t ≡ ν′ t) → (most most′ : ℕ) → most ≡ most′ → (s : ℕ) → s < G .states

@@ -9,23 +9,13 @@ use native.Mathlib.Omega.{arith}
 use Rattle.plays.specs.declared.mode.Mode.{Mode}
 use Rattle.plays.specs.declared.mode.Mode.the-variants.{Fair, Stable}
 use Rattle.plays.specs.Arena.{Arena, next}
-use Rattle.plays.specs.Play.{Step}
 use Rattle.plays.specs.Strategy.{systemByte, environmentByte}
 use Rattle.plays.specs.Round.{Reaching}
-use Rattle.plays.specs.Number.{Won, Fewest}
+use Rattle.plays.specs.Number.{Won}
 use Rattle.plays.specs.Entry.{Lowest, OutputServes, FairServes, StableServes, FairEntries, StableEntries, Entries}
 use Rattle.plays.proofs.CaseLaws.{zero-or, below-or}
 use Rattle.plays.proofs.RoundLaws.{one-smallest, one-round}
-
--- there is one fewest number
-pub one-fewest : (G : Arena) (C : ℕ → List Step → Type 0) (j k : ℕ) → Fewest G C j → Fewest G C k → j ≡ k
-one-fewest G C j k f g = below-or j k (λ l. absurd (not-fewer j k f g l)) (λ le. below-or k j (λ l. absurd (not-fewer k j g f l)) (λ ge. omega arith))
-  where
-    not-fewer : (j k : ℕ) → Fewest G C j → Fewest G C k → j < k → ⊥
-    not-fewer j k f g l =
-        let w = f .some in
-        let c = g .fewest j l (w .0) (w .1) in
-        c .2 (w .2 (c .0) (c .1))
+use Rattle.plays.proofs.NumberLaws.{one-fewest}
 
 -- there is one lowest number with a property, in whatever words
 pub one-lowest : {P Q : ℕ → Type 0} {a b : ℕ} → ((c : ℕ) → P c → Q c) → ((c : ℕ) → Q c → P c) → Lowest P a → Lowest Q b → a ≡ b

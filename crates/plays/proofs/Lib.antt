@@ -9,4 +9,6 @@ pub mod WayLaws
 pub mod BeatenLaws
 pub mod RoundLaws
 pub mod KeyLaws
+pub mod WinLaws
+pub mod NumberLaws
 pub mod EntryLaws

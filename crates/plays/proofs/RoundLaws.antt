@@ -121,21 +121,27 @@ round-number fair G σ s r positive some w beaten =
       smallest = λ k l below ω legal. beaten-counterplay fair G s k (beaten k (below positive)) ω legal;
     }
 
--- where the environment wins there is none: k times n steps of a way with the environment's table have the condition k times and reach no goal
+-- where the environment wins there is a counterplay to every way with every number: k times n steps of the way with the environment's table have the condition
+-- k times and reach no goal
+pub winner-counterplay : (mode : Mode) (G : Arena) (τ : List ℕ) (s : ℕ) → EnvironmentWins mode G τ s → (k : ℕ) (ω : SystemWay) → Outputs G ω
+    → Counterplay G (Reaching G s) (Assumed mode G k) ω
+winner-counterplay mode G τ s w k ω legal =
+    let p : List Step = first (meet (byEnvironment G τ s) ω) (k * G .states) in
+    let h = environment-made G mode τ (k * G .states) s ω legal w in
+    record {
+      play = p;
+      by = h .1;
+      assumed = ⊎-elim (λ f. absurd (w .keeping p (h .0) f)) (λ m. m)
+          (failed-or-assumed mode G k p (first-long (meet (byEnvironment G τ s) ω) (k * G .states)));
+      undone = λ e. clash (reaches G s p) e (w .avoiding p (h .0));
+    }
+
+-- so there is no round number
 pub no-round : (mode : Mode) (G : Arena) (τ : List ℕ) (s : ℕ) → EnvironmentWins mode G τ s → RoundNumber mode G (Reaching G s) 0
 no-round mode G τ s w =
     record {
       some = λ z. absurd (let y : ⊥ = omega arith in y);
-      smallest = λ k l below ω legal.
-          let p : List Step = first (meet (byEnvironment G τ s) ω) (k * G .states) in
-          let h = environment-made G mode τ (k * G .states) s ω legal w in
-          record {
-            play = p;
-            by = h .1;
-            assumed = ⊎-elim (λ f. absurd (w .keeping p (h .0) f)) (λ m. m)
-                (failed-or-assumed mode G k p (first-long (meet (byEnvironment G τ s) ω) (k * G .states)));
-            undone = λ e. clash (reaches G s p) e (w .avoiding p (h .0));
-          };
+      smallest = λ k l below. winner-counterplay mode G τ s w k;
     }
 
 -- what is done may be said in other words
@@ -152,7 +158,7 @@ round-map mode G D E r same n =
 -- ---- it is the only one
 
 -- a way that does, and a counterplay to every way, exclude each other
-does-not : (G : Arena) (Done A : List Step → Type 0) (ω : SystemWay) → Does G Done A ω → Counterplay G Done A ω → ⊥
+pub does-not : (G : Arena) (Done A : List Step → Type 0) (ω : SystemWay) → Does G Done A ω → Counterplay G Done A ω → ⊥
 does-not G Done A ω does c = c .undone (does (c .play) (c .by) (c .assumed))
 
 module _ (G : Arena) (Done : List Step → Type 0) (A : ℕ → List Step → Type 0) where

@@ -238,3 +238,8 @@ module _ {mode : Mode} {i o : ℕ} {rule condition : List ℕ} {old new new′ :
 pub one-rule : {mode : Mode} {i o : ℕ} {rule condition : List ℕ} {old new new′ : Buffers} {r r′ : Answer}
     → RuleSolved mode i o rule condition old new r → RuleSolved mode i o rule condition old new′ r′ → RuleAgree new new′ r r′
 one-rule x y = rule-agrees x y
+
+-- so their four buffers are the same
+pub same-buffers : {new new′ : Buffers} {r r′ : Answer} → RuleAgree new new′ r r′ → new ≡ new′
+same-buffers w =
+    λ i. record { transitions = w .transitions i; accepting = w .accepting i; system = w .system i; environment = w .environment i }

@@ -1,7 +1,7 @@
 -- The calls of the game have one outcome: two runs on one input, from the same old buffers, for which the call's promise holds agree as specs/Agreement.antt
 -- says. The answer, both of the automaton's buffers and every byte of both tables are determined.
 -- Assumes nothing.
-use Prim.Native.Nat.{ℕ, _+_, _*_, _/_, _%_, _^_, _<_, _≤_}
+use Prim.Native.Nat.{ℕ, _+_, _*_, _/_, _%_, _<_, _≤_}
 use mathlib.Core.Path.{_≡_, refl, sym, ap, ap₂, _∙_, subst}
 use mathlib.Core.Bool.{true, false, cond, _||_}
 use mathlib.Core.List.{List}

@@ -1,5 +1,5 @@
--- The listing call and the program's call have one outcome: two runs on one input, into outputs that held the same, for which the call's promise holds agree as
--- specs/Agreement.antt says.
+-- The listing call and the program's call have one outcome: two runs on one input, into outputs that held the same, for which the call's promise holds agree
+-- as specs/Agreement.antt says.
 -- Assumes nothing.
 use Prim.Native.Nat.{ℕ, min}
 use mathlib.Core.Path.{_≡_, sym, ap, ap₂, _∙_}

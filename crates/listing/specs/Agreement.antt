@@ -1,5 +1,6 @@
--- What two runs of the listing call, or of the program's call, on one input, into outputs that held the same, have in common (proofs/OneAnswer.antt: any two for
--- which the call's promise holds): everything. The text is one, byte for byte, its lines of states too, and so are the count and every byte of the output.
+-- What two runs of the listing call, or of the program's call, on one input, into outputs that held the same, have in common (proofs/OneAnswer.antt: any two
+-- for which the call's promise holds): everything. The text is the same, byte for byte, with its lines of the states, and so are the count and every byte of
+-- the output.
 -- No promise of a call that the specification names rests on this file.
 -- Assumes nothing.
 use Prim.Native.Nat.{ℕ}

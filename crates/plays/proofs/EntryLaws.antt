@@ -1,5 +1,5 @@
--- The tables' bytes are determined (specs/Entry.antt): whatever two pairs of tables have bytes that are the lowest that serve, a winner's bytes are the same in
--- both, since every state's numbers are the same in both.
+-- The tables' bytes are determined (specs/Entry.antt): of two pairs of tables whose winners' bytes are the lowest that serve, both have the same bytes there.
+-- For each state has one number of each kind, and what serves goes by these numbers alone.
 -- Assumes nothing.
 use Prim.Native.Nat.{ℕ, _<_}
 use mathlib.Core.Path.{_≡_, refl, sym, _∙_}

@@ -1,8 +1,8 @@
 -- The calls from C have one outcome: two runs on one input, with the same in the buffers before, for which the call's promise holds agree as
 -- specs/Agreement.antt says. Each rests on the library call's theorem.
 -- Assumes nothing.
-use Prim.Native.Nat.{ℕ, _^_}
-use mathlib.Core.Path.{_≡_, sym, ap, _∙_, subst, subst₂}
+use Prim.Native.Nat.{ℕ}
+use mathlib.Core.Path.{_≡_, sym, ap, _∙_}
 use mathlib.Core.List.{List}
 use Rattle.automaton.specs.Trial.{trialNumber, trialPlace}
 use Rattle.automaton.proofs.OneAnswer.{one-trial}
@@ -11,8 +11,7 @@ use Rattle.game.specs.Answer.{answerNumber, answerPlace, answerStates, answerRo
 use Rattle.plays.specs.declared.mode.Mode.{Mode}
 use Rattle.plays.specs.Arena.{arena}
 use Rattle.game.specs.Rule.{Buffers}
-use Rattle.game.specs.Agreement.{TablesAfter}
-use Rattle.game.proofs.OneAnswer.{one-rule, one-given}
+use Rattle.game.proofs.OneAnswer.{one-rule, same-buffers, one-given}
 use Rattle.capi.specs.Verdict.{canFlag, RuleWritten, GivenWritten}
 use Rattle.capi.specs.Step.{StepWritten}
 use Rattle.capi.specs.Trial.{satisfiedFlag, TrialWritten}
@@ -23,11 +22,11 @@ numbers : {A : Type 0} {a b : A} {k m : ℕ} (f : A → ℕ) → a ≡ b → k �
 numbers f e p q = p ∙ ap f e ∙ sym q
 
 -- two runs of `airtable_solve_rule` agree
-pub one-solve-rule : {mode : Mode} (i : ℕ) {o : ℕ} {rule condition : List ℕ} {old new new′ : Buffers}
+pub one-solve-rule : {mode : Mode} {i o : ℕ} {rule condition : List ℕ} {old new new′ : Buffers}
     {number can n round place number′ can′ n′ round′ place′ : ℕ}
     → RuleWritten mode i o rule condition old new number can n round place → RuleWritten mode i o rule condition old new′ number′ can′ n′ round′ place′
-    → RuleWrittenAgree (2 ^ i) new new′ number can n round place number′ can′ n′ round′ place′
-one-solve-rule i {new = new} {new′ = new′} x y =
+    → RuleWrittenAgree new new′ number can n round place number′ can′ n′ round′ place′
+one-solve-rule x y =
     let w = one-rule (x .solved) (y .solved) in
     record {
       same-number = numbers answerNumber (w .answer) (x .number-of) (y .number-of);
@@ -35,11 +34,7 @@ one-solve-rule i {new = new} {new′ = new′} x y =
       same-n = numbers answerStates (w .answer) (x .n-of) (y .n-of);
       same-round = numbers answerRound (w .answer) (x .round-of) (y .round-of);
       same-place = numbers answerPlace (w .answer) (x .place-of) (y .place-of);
-      transitions = w .transitions;
-      accepting = w .accepting;
-      tables =
-          subst₂ (λ (k m : ℕ). TablesAfter k m (2 ^ i) (new .system) (new .environment) (new′ .system) (new′ .environment)) (sym (x .number-of))
-          (sym (x .n-of)) (w .tables);
+      same-buffers = same-buffers w;
     }
 
 -- two runs of `airtable_solve_given` agree
@@ -47,15 +42,16 @@ pub one-solve-given : {mode : Mode} (i o : ℕ) {start n : ℕ} {transitions acc
     {number can round place number′ can′ round′ place′ : ℕ}
     → GivenWritten mode i o start (arena i o n transitions accepting mask) σ₀ τ₀ σ τ number can round place
     → GivenWritten mode i o start (arena i o n transitions accepting mask) σ₀ τ₀ σ′ τ′ number′ can′ round′ place′
-    → GivenWrittenAgree n (2 ^ i) σ τ σ′ τ′ number can round place number′ can′ round′ place′
-one-solve-given i o {n = n} {σ = σ} {τ = τ} {σ′ = σ′} {τ′ = τ′} x y =
+    → GivenWrittenAgree σ τ σ′ τ′ number can round place number′ can′ round′ place′
+one-solve-given i o x y =
     let w = one-given i o (x .solved) (y .solved) in
     record {
       same-number = numbers answerNumber (w .answer) (x .number-of) (y .number-of);
       same-can = numbers canFlag (w .answer) (x .can-of) (y .can-of);
       same-round = numbers answerRound (w .answer) (x .round-of) (y .round-of);
       same-place = numbers answerPlace (w .answer) (x .place-of) (y .place-of);
-      tables = subst (λ (k : ℕ). TablesAfter k n (2 ^ i) σ τ σ′ τ′) (sym (x .number-of)) (w .tables);
+      same-system = w .system;
+      same-environment = w .environment;
     }
 
 -- two runs of `airtable_follow` agree: its promise gives each number as a function of the input

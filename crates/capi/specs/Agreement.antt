@@ -1,31 +1,29 @@
 -- What two runs of a call from C on one input, with the same in its buffers before, have in common (proofs/OneAnswer.antt: any two for which its promise
--- holds): every single number that is written, and the buffers as the library's calls leave them, where the free bytes of a won state alone may differ
--- (game, specs/Agreement.antt). The names with ′ are the second run's. No promise of a call that the specification names rests on this file.
+-- holds): everything, that is every single number that is written and every byte of every buffer. The names with ′ are the second run's. No promise of a call
+-- that the specification names rests on this file.
 -- Assumes nothing.
 use Prim.Native.Nat.{ℕ}
 use mathlib.Core.Path.{_≡_}
 use Rattle.plays.specs.Strategy.{Table}
 use Rattle.game.specs.Rule.{Buffers}
-use Rattle.game.specs.Agreement.{TablesAfter}
 
--- the rule call
-pub record RuleWrittenAgree (inputs : ℕ) (new new′ : Buffers) (number can n round place number′ can′ n′ round′ place′ : ℕ) : Type 0 where
+-- the rule call, with its four buffers
+pub record RuleWrittenAgree (new new′ : Buffers) (number can n round place number′ can′ n′ round′ place′ : ℕ) : Type 0 where
   pub same-number : number ≡ number′
   pub same-can : can ≡ can′
   pub same-n : n ≡ n′
   pub same-round : round ≡ round′
   pub same-place : place ≡ place′
-  pub transitions : new .transitions ≡ new′ .transitions
-  pub accepting : new .accepting ≡ new′ .accepting
-  pub tables : TablesAfter number n inputs (new .system) (new .environment) (new′ .system) (new′ .environment)
+  pub same-buffers : new ≡ new′
 
--- the call for a given automaton with n states
-pub record GivenWrittenAgree (n inputs : ℕ) (σ τ σ′ τ′ : Table) (number can round place number′ can′ round′ place′ : ℕ) : Type 0 where
+-- the call for a given automaton, with its two tables
+pub record GivenWrittenAgree (σ τ σ′ τ′ : Table) (number can round place number′ can′ round′ place′ : ℕ) : Type 0 where
   pub same-number : number ≡ number′
   pub same-can : can ≡ can′
   pub same-round : round ≡ round′
   pub same-place : place ≡ place′
-  pub tables : TablesAfter number n inputs σ τ σ′ τ′
+  pub same-system : σ ≡ σ′
+  pub same-environment : τ ≡ τ′
 
 -- the follower
 pub record StepWrittenAgree (state reached row output place number state′ reached′ row′ output′ place′ number′ : ℕ) : Type 0 where

@@ -123,6 +123,11 @@ module _ (φ : Formula) (i o n : ℕ) (transitions flags : List ℕ) (mask : ℕ
   pub on-product : Automaton φ (2 ^ i * 2 ^ o) n transitions flags
   on-product = subst (λ (L : ℕ). Automaton φ L n transitions flags) (pow-add 2 i o) automaton
 
+  -- no transition leaves the n states
+  pub automaton-closed : (s x y : ℕ) → s < n → x < 2 ^ i → y < 2 ^ o → next G s x y < n
+  unfolding next
+  automaton-closed s x y hs hx hy = on-product .moved s (letterOf (2 ^ i) x y) hs (letter-below (2 ^ i) (2 ^ o) x y hx hy) .0
+
   -- the solver may be given this arena
   pub automaton-valid : badAlphabet i o ≡ false → n ≤ stateLimit → stateLimit * letterCount i o ≤ length transitions → stateLimit ≤ length flags → Valid G
   automaton-valid a few long wide =

@@ -11,3 +11,4 @@ pub mod RoundLaws
 pub mod KeyLaws
 pub mod WinLaws
 pub mod NumberLaws
+pub mod EntryLaws

@@ -21,7 +21,7 @@ use Rattle.automaton.specs.Alphabet.{letterOf, letterCount}
 use Rattle.automaton.specs.Bits.{bit}
 use Rattle.automaton.specs.Automaton.{Automaton}
 use Rattle.plays.specs.Arena.{Arena, arena, next, goal, holds}
-use Rattle.plays.specs.inner.Rank.{modeOf, judged, Safe, Falls, AllowedOutput, AllowedInput}
+use Rattle.plays.specs.inner.Rank.{modeOf, judged, cap, Safe, Falls, AllowedOutput, AllowedInput}
 use Rattle.plays.specs.inner.Beaten.{left, Beaten, over, forced}
 use Rattle.plays.specs.Strategy.{systemByte, environmentByte, SystemWins, EnvironmentWins}
 use Rattle.plays.specs.Round.{Reaching, RoundNumber}
@@ -47,9 +47,14 @@ if-true : (a b : Bool) → (not a || b) ≡ true → a ≡ true → b ≡ true
 if-true true b e h = e
 if-true false b e h = absurd (mathlib.Core.Bool.false≢true h)
 
-falls-true : (G : Arena) (player steady : Bool) (r : List ℕ) (s x t : ℕ) → fallsOf (judged G player x) steady (getD r t 0) (getD r s 0) ≡ true
-    → Falls G player steady r s x t
-falls-true G player steady r s x t e =
+-- a rank up to `most` is within the cap
+capped : (steady : Bool) (most rank own : ℕ) → rank ≤ most → (not steady || leb rank own) ≡ true → rank ≤ cap steady most own
+capped true most rank own b e = leb-true rank own e
+capped false most rank own b e = b
+
+falls-true : (G : Arena) (player steady : Bool) (most : ℕ) (r : List ℕ) (s x t : ℕ) → getD r t 0 ≤ most
+    → fallsOf (judged G player x) steady (getD r t 0) (getD r s 0) ≡ true → Falls G player steady most r s x t
+falls-true G player steady most r s x t b e =
     let j = judged G player x in
     let lower = ltb (getD r t 0) (getD r s 0) in
     let steadily = leb (getD r t 0) (getD r s 0) in
@@ -57,18 +62,18 @@ falls-true G player steady r s x t e =
     let w = and-true (not j || lower) (not steady || steadily) (u .1) in (
       ltb-true 0 (getD r t 0) (u .0),
       (λ h. ltb-true (getD r t 0) (getD r s 0) (if-true j lower (w .0) h)),
-      (λ h. leb-true (getD r t 0) (getD r s 0) (if-true steady steadily (w .1) h)),
+      (λ _. capped steady most (getD r t 0) (getD r s 0) b (w .1)),
     )
 
-step-true : (G : Arena) (player steady : Bool) (r : List ℕ) (s x t : ℕ) → stepOf G player steady r s x t ≡ true
-    → Safe G player t (Falls G player steady r s x t)
+step-true : (G : Arena) (player steady : Bool) (most : ℕ) (r : List ℕ) (s x t : ℕ) → getD r t 0 ≤ most → stepOf G player steady r s x t ≡ true
+    → Safe G player t (Falls G player steady most r s x t)
 unfolding stepOf
-step-true G true steady r s x t e =
-    ⊎-elim (λ g. _⊎_.inl g) (λ d. _⊎_.inr (falls-true G true steady r s x t d))
+step-true G true steady most r s x t b e =
+    ⊎-elim (λ g. _⊎_.inl g) (λ d. _⊎_.inr (falls-true G true steady most r s x t b d))
     (or-cases (goal G t) (fallsOf (holds G x) steady (getD r t 0) (getD r s 0)) e)
-step-true G false steady r s x t e =
+step-true G false steady most r s x t b e =
     let w = and-true (not (goal G t)) (fallsOf (not (holds G x)) steady (getD r t 0) (getD r s 0)) e in
-    (not-true→ (goal G t) (w .0), falls-true G false steady r s x t (w .1))
+    (not-true→ (goal G t) (w .0), falls-true G false steady most r s x t b (w .1))
 
 -- the winner's table wins from s: the environment's with the round number 0, else the system's, with this number
 abbrev pub WinsFrom : ℕ → Mode → Arena → List ℕ → ℕ → Type 0
@@ -104,12 +109,12 @@ module _ (i o : ℕ) (φ : Formula) (n mask₀ mask : ℕ) (t₀ f₀ t f : List
   step-equal false steady r s x u hx hu =
       ap₂ (λ (k : ℕ) (b : Bool). not (not (eqb k 0)) && fallsOf (not b) steady (getD r u 0) (getD r s 0)) (one-flag A A₀ u hu) (judge x hx)
 
-  step-same : (player steady : Bool) (r : List ℕ) (s x y : ℕ) → s < n → x < 2 ^ i → y < 2 ^ o → stepOf G₀ player steady r s x (next G₀ s x y) ≡ true
-      → Safe G player (next G s x y) (Falls G player steady r s x (next G s x y))
-  step-same player steady r s x y hs hx hy e =
+  step-same : (player steady : Bool) (most : ℕ) (r : List ℕ) → ((t : ℕ) → getD r t 0 ≤ most) → (s x y : ℕ) → s < n → x < 2 ^ i → y < 2 ^ o
+      → stepOf G₀ player steady r s x (next G₀ s x y) ≡ true → Safe G player (next G s x y) (Falls G player steady most r s x (next G s x y))
+  step-same player steady most r bounds s x y hs hx hy e =
       let w = next-same s x y hs hx hy in
-      subst (λ (u : ℕ). Safe G player u (Falls G player steady r s x u)) (sym (w .1))
-      (step-true G player steady r s x (next G₀ s x y) (step-equal player steady r s x (next G₀ s x y) hx (w .0) ∙ e))
+      subst (λ (u : ℕ). Safe G player u (Falls G player steady most r s x u)) (sym (w .1))
+      (step-true G player steady most r s x (next G₀ s x y) (bounds (next G₀ s x y)) (step-equal player steady r s x (next G₀ s x y) hx (w .0) ∙ e))
 
   module _ (player fair : Bool) (most : ℕ) (table r : List ℕ) (passed : winsOf player fair G₀ most table r ≡ true) where
     -- only states have a rank, the start has one, and every state of the ranks is right
@@ -149,16 +154,16 @@ module _ (i o : ℕ) (φ : Formula) (n mask₀ mask : ℕ) (t₀ f₀ t f : List
   -- by the system's test it wins from every state that has a rank, with the largest of them
   system-won : (fair : Bool) (most : ℕ) (σ r : List ℕ) → winsOf true fair G₀ most σ r ≡ true → (s : ℕ) → 0 < getD r s 0 → SystemWins (modeOf fair) G most σ s
   unfolding bytesOf outputOf
-  system-won fair most σ r e s = system-wins fair G σ r allowed most s ((λ _. bound true fair most σ r e s), (λ _. bound true fair most σ r e))
+  system-won fair most σ r e s = system-wins fair G σ most r allowed most s (bound true fair most σ r e s, (λ _. omega arith))
     where
-      allowed : (s : ℕ) → 0 < getD r s 0 → (x : ℕ) → x < 2 ^ i → AllowedOutput fair G r s x (systemByte G σ s x)
+      allowed : (s : ℕ) → 0 < getD r s 0 → (x : ℕ) → x < 2 ^ i → AllowedOutput fair G most r s x (systemByte G σ s x)
       allowed s h x hx =
           let y = systemByte G₀ σ s x in
           let w =
           and-true (ltb y (2 ^ o)) (stepOf G₀ true fair r s x (next G₀ s x y))
           (below-at (outputOf fair G₀ σ r s) (2 ^ i) (bytes-right true fair most σ r e s h) x hx) in
           let hy = ltb-true y (2 ^ o) (w .0) in
-          (hy, step-same true fair r s x y (state-below true fair most σ r e s h) hx hy (w .1))
+          (hy, step-same true fair most r (bound true fair most σ r e) s x y (state-below true fair most σ r e s h) hx hy (w .1))
 
   -- and so does the environment by its own
   environment-won : (fair : Bool) (τ r : List ℕ) → winsOf false fair G₀ n τ r ≡ true → (s : ℕ) → 0 < getD r s 0 → EnvironmentWins (modeOf fair) G τ s
@@ -171,7 +176,8 @@ module _ (i o : ℕ) (φ : Formula) (n mask₀ mask : ℕ) (t₀ f₀ t f : List
           let w = and-true (ltb x (2 ^ i)) (below (inputOf fair G₀ τ r s) (2 ^ o)) (bytes-right false fair n τ r e s h) in
           let hx = ltb-true x (2 ^ i) (w .0) in (
             hx,
-            λ y hy. step-same false (not fair) r s x y (state-below false fair n τ r e s h) hx hy (below-at (inputOf fair G₀ τ r s) (2 ^ o) (w .1) y hy),
+            λ y hy. step-same false (not fair) n r (bound false fair n τ r e) s x y (state-below false fair n τ r e s h) hx hy
+                (below-at (inputOf fair G₀ τ r s) (2 ^ o) (w .1) y hy),
           )
 
   -- the goals are the same

@@ -3,9 +3,10 @@
 -- Assumes nothing.
 use borrow.Author.Needs.{needs}
 use native.Mathlib.Omega.{arith}
+use mathlib.Core.Path.{_≡_, subst}
 use mathlib.Core.Bool.{not}
-use Prim.Native.Nat.{ℕ, _-_, _<_, _≤_}
-use borrow.Author.Count.{below-none, below-more}
+use Prim.Native.Nat.{ℕ, _+_, _-_, _<_, _≤_}
+use borrow.Author.Count.{below-more}
 use denote.Ref.{now}
 use Rattle.plays.specs.Arena.{Arena}
 use Rattle.game.specs.inner.Game.{arenaOf}
@@ -25,16 +26,21 @@ abbrev μ-loop : tie.MeasureT-loop
 abbrev G : tie.Start Inv-loop μ-loop → Arena
 G c = arenaOf (c .args .g) (now (c .args .transitions)) (now (c .args .accepting))
 
+-- the output that is tried
+abbrev y : tie.In-loop Inv-loop μ-loop → ℕ
+y c = c .before .before .before .before .args .g .outputs - c .before .loop .left
+
 pub first-stop-spec : {M : Type 1} → statement M
 first-stop-spec =
     tie.close
     (tie.spec
     Inv-loop
     μ-loop
-    (λ c. (search needs, below-none _))
+    (λ c. (search needs, (λ k h. absurd (let z : ⊥ = omega arith in z))))
+    (λ c. omega (arith, c .before .loop .inv .0))
     (λ c κs.
     let z = c .before .before .before .before in
-    (z .pre .0 .moving, (z .pre .1 .0, z .pre .1 .1, c .loop-test .taken)))
+    (z .pre .0 .moving, (z .pre .1 .0, z .pre .1 .1, omega (arith, c .loop-test .taken, c .before .loop .inv .0))))
     (λ c. omega (arith, c .before .enters .ensures .below, c .before .before .before .before .before .before .pre .0 .accepting-long))
     (λ c.
     let at = c .before .before in
@@ -42,10 +48,10 @@ first-stop-spec =
     let l = at .before .before .loop in
     let e = at .enters in
     record {
-      within = l .inv .0;
+      within = omega arith;
       earlier = l .inv .1;
-      here = λ _. stops-at-goal (G z) (z .args .s) (z .args .x) (l .y) (e .result) (e .ensures .is _) (now (z .args .ranks)) (z .args .most) (z .args .player)
-          (c .if1 .taken);
+      here = λ _. stops-at-goal (G z) (z .args .s) (z .args .x) (y (at .before)) (e .result) (e .ensures .is _) (now (z .args .ranks)) (z .args .most)
+          (z .args .player) (c .if1 .taken);
     })
     (λ c κs. omega (arith, c .before .before .enters .ensures .below, c .before .before .before .before .before .before .before .pre .0 .moving .states-fit))
     (λ c.
@@ -54,23 +60,30 @@ first-stop-spec =
     let l = at .before .before .loop in
     let e = at .enters in
     record {
-      within = l .inv .0;
+      within = omega arith;
       earlier = l .inv .1;
-      here = λ _. stops-at-rank (G z) (z .args .s) (z .args .x) (l .y) (e .result) (e .ensures .is _) (now (z .args .ranks)) (z .args .most)
+      here = λ _. stops-at-rank (G z) (z .args .s) (z .args .x) (y (at .before)) (e .result) (e .ensures .is _) (now (z .args .ranks)) (z .args .most)
           (c .before .before .if1 .left) (c .before .is-below .ensures) (z .args .player) (c .if2 .taken);
     })
-    (λ c. omega (arith, c .before .before .before .before .before .before .before .before .before .pre .0 .moving .outputs-fit))
-    (λ c. omega arith)
+    (λ c. omega (arith, c .before .before .before .before .before .loop-test .taken))
+    (λ c. omega (arith, c .before .before .before .before .before .loop-test .taken))
     (λ c.
     let at = c .before .before .before .before in
     let z = at .before .before .before .before .before in
     let l = at .before .before .loop in
-    let e = at .enters in (
-      omega arith,
-      below-more _ _ (l .inv .1)
-          (goes-on (G z) (z .args .s) (z .args .x) (l .y) (e .result) (e .ensures .is _) (now (z .args .ranks)) (z .args .most)
-          (c .before .before .if1 .left) (c .before .is-below .ensures) (z .args .player) (c .if2 .left)),
+    let e = at .enters in
+    let w = at .before .loop-test .taken in (
+      omega (arith, l .inv .0),
+      subst (λ (b : ℕ). (k : ℕ) → k < b → Claim (not (z .args .player)) (GoodOutput (G z) (z .args .player) (now (z .args .ranks)) (z .args .most) (z .args .s) (z .args .x) k))
+          (let q : y (at .before) + 1 ≡ z .args .g .outputs - (l .left - 1) = omega (arith, l .inv .0) in q)
+          (below-more _ _ (l .inv .1)
+          (goes-on (G z) (z .args .s) (z .args .x) (y (at .before)) (e .result) (e .ensures .is _) (now (z .args .ranks)) (z .args .most)
+          (c .before .before .if1 .left) (c .before .is-below .ensures) (z .args .player) (c .if2 .left))),
     ))
     (λ c.
     let l = c .before .loop in
-    record { within = l .inv .0; earlier = l .inv .1; here = λ h. absurd (let z : ⊥ = omega arith in z) }))
+    record {
+      within = omega arith;
+      earlier = λ k h. l .inv .1 k (let z = c .loop-test .left in omega arith);
+      here = λ h. absurd (let z : ⊥ = omega arith in z);
+    }))

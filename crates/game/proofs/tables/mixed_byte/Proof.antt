@@ -13,6 +13,6 @@ mixed-byte-spec =
     (λ c. search needs)
     (λ c. search needs)
     (λ c κs. search needs)
-    (λ c. far-byte (c .before .before .if1 .taken) (c .system-byte .ensures))
+    (λ c. far-byte (c .before .if1 .taken) (c .system-byte .ensures))
     (λ c κs. search needs)
     (λ c. near-byte (c .before .if1 .left) (c .system-byte2 .ensures)))

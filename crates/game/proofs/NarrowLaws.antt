@@ -103,7 +103,7 @@ pub record Between (G : Arena) (start : ℕ) (system best needs : List ℕ) (low
   pub bounds : Bounds G high needs
   pub needs-won : Shrinks system needs
 
--- exact needs are such bounds
+-- with exact needs within the limit the system is beaten as they say
 exact-bounds : {G : Arena} {m : ℕ} {needs : List ℕ} → ExactNeeds G m needs → ((t : ℕ) → getD needs t 0 ≤ m) → m ≤ stateLimit → Bounds G m needs
 exact-bounds exact low few =
     record {

@@ -88,7 +88,7 @@ module _ {G : Arena} (v : Valid G) {l : ℕ} {needs : List ℕ} {s r : ℕ} (b :
   own = getD needs s 0
 
   -- an output that serves an input lets the needs fall
-  falls : G .inputs ≤ r → Forces G true s (Falls G true false needs s)
+  falls : G .inputs ≤ r → Forces G true s (Falls G true false l needs s)
   falls all x h =
       let w = served-at u all x h in
       let t = next G s x (w .0) in (
@@ -97,10 +97,10 @@ module _ {G : Arena} (v : Valid G) {l : ℕ} {needs : List ℕ} {s r : ℕ} (b :
         ⊎-elim
             (λ g. _⊎_.inl g)
             (λ d. _⊎_.inr (on (holds G x)
-            (λ e. let q = ranked-below own needs t (rw e at (d .1)) in (q .0, (λ _. q .1), (λ z. absurd (mathlib.Core.Bool.false≢true z))))
+            (λ e. let q = ranked-below own needs t (rw e at (d .1)) in (q .0, (λ _. q .1), (λ z. clash (holds G x) e z)))
             (λ e.
             let q = ranked-below (l + 1) needs t (sym (beq-true (rankedBelow (l + 1) needs t)) ∙ rw e at (d .1)) in
-            (q .0, (λ z. clash (holds G x) z e), (λ z. absurd (mathlib.Core.Bool.false≢true z))))))
+            (q .0, (λ z. clash (holds G x) z e), (λ _. omega (arith, q .1))))))
             (w .2),
       )
 
@@ -249,13 +249,13 @@ module _ {G : Arena} {l : ℕ} {old needs : List ℕ} {k : ℕ} {lifted : Bool} 
   pub sweep-over : {n : ℕ} → k ≡ n → Swept G l old needs n lifted
   sweep-over e = subst (λ (i : ℕ). Swept G l old needs i lifted) e so-far
 
--- after a sweep that lifted none the needs are a certificate
-pub sweeps-end : {G : Arena} {l : ℕ} {old needs : List ℕ} {lifted : Bool} → Swept G l old needs (G .states) lifted → lifted ≡ false
-    → Ranked G true false l needs
-sweeps-end {needs = needs} last e =
-    let within = last .bounds .within in
-    record {
-      within = within;
-      bound = λ t. zero-or (getD needs t 0) (λ z. omega arith) (λ p. last .stand e t (within t p) p .0);
-      forced = λ s p. last .stand e s (within s p) p .1;
-    }
+-- after a sweep that lifted none the needs are a certificate, and within the limit
+module _ {G : Arena} {l : ℕ} {old needs : List ℕ} {lifted : Bool} (last : Swept G l old needs (G .states) lifted) (e : lifted ≡ false) where
+  stand : (s : ℕ) → Stands G l needs s
+  stand s p = last .stand e s (last .bounds .within s p) p
+
+  pub sweeps-end : Ranked G true false l needs
+  sweeps-end = record { within = last .bounds .within; forced = λ s p. stand s p .1 }
+
+  pub sweeps-low : (t : ℕ) → getD needs t 0 ≤ l
+  sweeps-low t = zero-or (getD needs t 0) (λ z. omega arith) (λ p. stand t p .0)

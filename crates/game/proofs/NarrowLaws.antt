@@ -7,9 +7,11 @@ use Prim.Native.Nat.{ℕ, _+_, _<_, _≤_}
 use native.Mathlib.Omega.{arith}
 use lib.ListN.{length, getD, set}
 use lib.Seq.{getD-set-same, getD-set-other}
+use Rattle.automaton.specs.Limits.{stateLimit}
 use Rattle.plays.specs.Arena.{Arena}
 use Rattle.plays.specs.inner.Rank.{Ranked}
 use Rattle.plays.specs.inner.Beaten.{Beaten, over}
+use Rattle.plays.specs.inner.Exact.{ExactNeeds}
 use Rattle.game.specs.inner.Needs.{Marked, Bounds, Shrinks, Settled, UnrankedBeaten, Narrowed}
 use Rattle.plays.proofs.CaseLaws.{zero-or, same-or}
 use Rattle.plays.proofs.BeatenLaws.{beaten-less, beaten-limit}
@@ -93,21 +95,35 @@ pub record Between (G : Arena) (start : ℕ) (system best needs : List ℕ) (low
   pub apart : low < high
   pub few : high ≤ G .states
   pub beaten : Beaten false G low start low
+  pub best-bounds : Bounds G high best
   pub ranked : Ranked G true false high best
+  pub best-low : (t : ℕ) → getD best t 0 ≤ high
   pub won : Shrinks system best
   pub here : 0 < getD best start 0
   pub bounds : Bounds G high needs
   pub needs-won : Shrinks system needs
 
+-- with exact needs within the limit the system is beaten as they say
+exact-bounds : {G : Arena} {m : ℕ} {needs : List ℕ} → ExactNeeds G m needs → ((t : ℕ) → getD needs t 0 ≤ m) → m ≤ stateLimit → Bounds G m needs
+exact-bounds exact low few =
+    record {
+      within = exact .ranked .within;
+      small = λ t. omega (arith, low t);
+      beaten = λ s k hs kl q. exact .beaten s k hs q;
+    }
+
 -- at first between none and the number of states
-pub search-starts : {G : Arena} {start : ℕ} {system needs : List ℕ} → start < G .states → Ranked G true false (G .states) system → UnrankedBeaten G system
-    → 0 < getD system start 0 → Marked (G .states) system needs → Between G start system system needs 0 (G .states)
-search-starts {G} h ranked lost here m =
+pub search-starts : {G : Arena} {start : ℕ} {system needs : List ℕ} → start < G .states → G .states ≤ stateLimit → ExactNeeds G (G .states) system
+    → ((t : ℕ) → getD system t 0 ≤ G .states) → UnrankedBeaten G system → 0 < getD system start 0 → Marked (G .states) system needs
+    → Between G start system system needs 0 (G .states)
+search-starts {G} h few exact low lost here m =
     record {
       apart = omega arith;
       few = omega arith;
       beaten = over refl;
-      ranked = ranked;
+      best-bounds = exact-bounds exact low few;
+      ranked = exact .ranked;
+      best-low = low;
       won = λ t p. p;
       here = here;
       bounds = marked-bounds m lost (G .states);
@@ -123,7 +139,9 @@ module _ {G : Arena} {start : ℕ} {system best needs next : List ℕ} {low high
         apart = below;
         few = so-far .few;
         beaten = settled .bounds .beaten start l hs (omega arith) (λ p. absurd (let z : ⊥ = omega arith in z));
+        best-bounds = so-far .best-bounds;
         ranked = so-far .ranked;
+        best-low = so-far .best-low;
         won = so-far .won;
         here = so-far .here;
         bounds = so-far .bounds;
@@ -140,7 +158,9 @@ module _ {G : Arena} {start : ℕ} {system best needs next : List ℕ} {low high
         apart = above;
         few = omega (arith, so-far .few);
         beaten = so-far .beaten;
+        best-bounds = settled .bounds;
         ranked = settled .ranked p;
+        best-low = settled .low p;
         won = next-won;
         here = p;
         bounds = settled .bounds;
@@ -154,7 +174,9 @@ search-ends {G} {start} {low = low} s le =
     record {
       positive = omega (arith, s .apart);
       few = s .few;
+      bounds = s .best-bounds;
       ranked = s .ranked;
+      low = s .best-low;
       won = s .won;
       here = s .here;
       beaten = λ k h. beaten-limit false G low start (s .beaten) k (omega arith);

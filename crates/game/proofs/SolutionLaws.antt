@@ -1,19 +1,29 @@
--- What the solver hands to the tables: fair, stable where the environment wins the start, and stable where the system does.
+-- What the solver hands to the tables: fair, where the environment wins the start, and stable where the system does.
 -- Assumes nothing.
 use mathlib.Core.Path.{_≡_, refl, sym, _∙_, subst}
 use mathlib.Core.Bool.{Bool, true, false}
 use mathlib.Core.List.{List}
 use mathlib.Core.Logic.{⊎-elim}
-use Prim.Native.Nat.{ℕ, _<_, _≤_}
+use Prim.Native.Nat.{ℕ, _+_, _<_, _≤_}
 use native.Mathlib.Omega.{arith}
 use lib.ListN.{getD}
+use borrow.Author.Tests.{eq-eqb, ne-eqb}
 use Rattle.plays.specs.Arena.{Arena}
 use Rattle.plays.specs.inner.Rank.{Ranked, Ranking}
 use Rattle.plays.specs.inner.Beaten.{Beaten}
+use Rattle.plays.specs.inner.Exact.{ExactNeeds}
+use Rattle.game.specs.Tables.{needLimit}
 use Rattle.game.specs.inner.Rounds.{Found}
-use Rattle.game.specs.inner.Needs.{UnrankedBeaten, Narrowed}
+use Rattle.game.specs.inner.Needs.{UnrankedBeaten, Narrowed, Widening, Wide}
 use Rattle.game.specs.inner.Solution.{Solves}
 use Rattle.plays.proofs.BeatenLaws.{held-beaten}
+
+-- what the needs are taken with, by whether the round number is 0
+pub limit-none : (n r : ℕ) → r ≡ 0 → needLimit n r ≡ n
+limit-none n r e = rw (eq-eqb r 0 e)
+
+pub limit-round : (n r : ℕ) → (r ≡ 0 → ⊥) → needLimit n r ≡ r
+limit-round n r d = rw (ne-eqb r 0 d)
 
 -- the states without a rank of the system have one of the environment
 pub unranked-beaten : {G : Arena} {system environment : List ℕ} → Ranking false G system environment → UnrankedBeaten G system
@@ -32,65 +42,81 @@ environment-ranked : {fair : Bool} {G : Arena} {system environment : List ℕ} �
     → getD system s 0 ≡ 0 → 0 < getD environment s 0
 environment-ranked r s hs e = ⊎-elim (λ w. absurd (let z : ⊥ = omega arith in z)) (λ w. w .1) (r .each s hs)
 
--- a larger bound on the ranks
-wider : {G : Arena} {most n : ℕ} {r : List ℕ} → most ≤ n → Ranked G true false most r → Ranked G true false n r
-wider le h = record { within = h .within; bound = λ t. omega (arith, h .bound t); forced = h .forced }
+-- steady ranks are within every cap
+steady : {G : Arena} {player : Bool} {most n : ℕ} {r : List ℕ} → Ranked G player true most r → Ranked G player true n r
+steady h = record { within = h .within; forced = h .forced }
 
 module _ {fair : Bool} {G : Arena} {start : ℕ} {system environment : List ℕ} (hs : start < G .states) (found : Found fair G system environment) where
   -- fair: the round number is the start's rank
-  pub solves-fair : fair ≡ true → Solves fair G start system system environment (getD system start 0)
-  solves-fair e =
-      let r = found .ranking in
+  pub solves-fair : fair ≡ true → {m : ℕ} → m ≡ needLimit (G .states) (getD system start 0)
+      → Solves fair G start system system environment m (getD system start 0)
+  solves-fair e {m} limit =
       record {
-        ranking = r;
-        near-ranked = r .of-system;
+        found = found;
+        near-ranked =
+            subst (λ (f : Bool). Ranked G true f m system) (sym e)
+            (steady (subst (λ (f : Bool). Ranked G true f (G .states) system) e (found .ranking .of-system)));
         near-won = λ t p. p;
         near-fair = λ q. refl;
-        can = λ p. p;
-        cannot = environment-ranked r start hs;
-        fair-bound = λ q. omega arith;
-        stable-bound = λ q. absurd (mathlib.Core.Bool.true≢false (sym e ∙ q));
-        beaten = λ k h. subst (λ (f : Bool). Beaten f G k start k) (sym e) (found .beaten e start k k hs h);
+        near-exact = λ q. absurd (mathlib.Core.Bool.true≢false (sym e ∙ q));
+        limit = limit;
+        can = λ p. (p, omega arith);
+        cannot = environment-ranked (found .ranking) start hs;
+        beaten = λ k h. subst (λ (f : Bool). Beaten f G k start k) (sym e) (found .rounds e start k k hs h);
+      }
+
+  -- the environment has a rank at the start: there is no round number
+  pub solves-cannot : (getD environment start 0 ≡ 0 → ⊥) → Solves fair G start system system environment (G .states) 0
+  solves-cannot p =
+      record {
+        found = found;
+        near-ranked = found .ranking .of-system;
+        near-won = λ t q. q;
+        near-fair = λ q. refl;
+        near-exact = found .needs;
+        limit = refl;
+        can = λ q. absurd (let o : ⊥ = omega arith in o);
+        cannot = λ q. omega arith;
+        beaten = λ k h. absurd (let o : ⊥ = omega arith in o);
       }
 
   module _ (e : fair ≡ false) where
-    -- stable, and the environment has a rank at the start
-    pub solves-cannot : (near : List ℕ) → ((t : ℕ) → getD near t 0 ≡ 0) → (getD environment start 0 ≡ 0 → ⊥) → Solves fair G start near system environment 0
-    solves-cannot near z p =
-        record {
-          ranking = found .ranking;
-          near-ranked =
-              record {
-                within = λ t q. let w = z t in absurd (let o : ⊥ = omega arith in o);
-                bound = λ t. omega (arith, z t);
-                forced = λ t q. let w = z t in absurd (let o : ⊥ = omega arith in o);
-              };
-          near-won = λ t q. let w = z t in absurd (let o : ⊥ = omega arith in o);
-          near-fair = λ q. absurd (mathlib.Core.Bool.true≢false (sym q ∙ e));
-          can = λ q. absurd (let o : ⊥ = omega arith in o);
-          cannot = λ q. omega arith;
-          fair-bound = λ q. omega (arith, z start);
-          stable-bound = λ q t. omega (arith, z t);
-          beaten = λ k h. absurd (let o : ⊥ = omega arith in o);
-        }
+    -- stable: the system is beaten where it has no rank
+    lost : UnrankedBeaten G system
+    lost = unranked-beaten (subst (λ (f : Bool). Ranking f G system environment) e (found .ranking))
 
-    -- stable, and the system has one: what `narrow` asks for
-    pub asks-narrow : getD environment start 0 ≡ 0 → Ranked G true false (G .states) system × UnrankedBeaten G system × (0 < getD system start 0)
-    asks-narrow p =
-        let r = subst (λ (f : Bool). Ranking f G system environment) e (found .ranking) in
-        (r .of-system, unranked-beaten r, system-ranked r start hs p)
+    -- the environment has no rank at the start: what `narrow` asks for
+    pub asks-narrow : getD environment start 0 ≡ 0
+        → (0 < getD system start 0) × ExactNeeds G (G .states) system × ((t : ℕ) → getD system t 0 ≤ G .states) × UnrankedBeaten G system
+    asks-narrow p = (system-ranked (found .ranking) start hs p, found .needs e, found .ranking .system-bound, lost)
 
-    -- and what its answer is for
-    pub solves-stable : {near : List ℕ} {m : ℕ} → Narrowed G start system near m → Solves fair G start near system environment m
-    solves-stable {near} n =
+    module _ {low : List ℕ} {m : ℕ} (n : Narrowed G start system low m) where
+      -- what `widened` asks for
+      pub asks-widened : Widening G m system low (m + 1) × UnrankedBeaten G system
+      asks-widened = (
         record {
-          ranking = found .ranking;
-          near-ranked = subst (λ (f : Bool). Ranked G true f (G .states) near) (sym e) (wider (n .few) (n .ranked));
-          near-won = n .won;
-          near-fair = λ q. absurd (mathlib.Core.Bool.true≢false (sym q ∙ e));
-          can = λ q. n .here;
-          cannot = λ q. let p = n .positive in absurd (let o : ⊥ = omega arith in o);
-          fair-bound = λ q. n .ranked .bound start;
-          stable-bound = λ q. n .ranked .bound;
-          beaten = λ k h. subst (λ (f : Bool). Beaten f G k start k) (sym e) (n .beaten k h);
-        }
+          above = omega arith;
+          ranked = n .ranked;
+          won = n .won;
+          below = λ t. omega (arith, n .low t);
+          beaten = λ s k h b q. n .bounds .beaten s k h (omega arith) q;
+        },
+        lost,
+      )
+
+      -- and what its answer is for
+      pub solves-stable : {near : List ℕ} → Wide G m system low near → Solves fair G start near system environment m m
+      solves-stable {near} w =
+          let p = n .positive in
+          let same = w .extends start (n .here) in
+          record {
+            found = found;
+            near-ranked = subst (λ (f : Bool). Ranked G true f m near) (sym e) (w .exact .ranked);
+            near-won = w .won;
+            near-fair = λ q. absurd (mathlib.Core.Bool.true≢false (sym q ∙ e));
+            near-exact = λ q. w .exact;
+            limit = sym (limit-round (G .states) m (λ z. let o : ⊥ = omega arith in o));
+            can = λ q. (omega (arith, n .here), omega (arith, n .low start));
+            cannot = λ q. absurd (let o : ⊥ = omega arith in o);
+            beaten = λ k h. subst (λ (f : Bool). Beaten f G k start k) (sym e) (n .beaten k h);
+          }

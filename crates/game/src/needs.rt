@@ -180,9 +180,11 @@ pub(crate) fn narrow(
     requires { ⌜ Valid (arenaOf g (now transitions) (now accepting)) ⌝ }
     requires { ⌜ (start < g .states) × (0 < getD (now system) start 0) ⌝ }
     requires { ⌜ ExactNeeds (arenaOf g (now transitions) (now accepting)) (g .states) (now system) ⌝ }
-    requires { ⌜ (t : ℕ) → getD (now system) t 0 ≤ g .states ⌝ }
+    requires { ⌜ ((t : ℕ) → getD (now system) t 0 ≤ g .states) ⌝ }
     requires { ⌜ UnrankedBeaten (arenaOf g (now transitions) (now accepting)) (now system) ⌝ }
+    requires { ⌜ length (now system) ≡ stateLimit ⌝ }
     ensures { λ r. ⌜ Narrowed (arenaOf g (now (transitions .entry)) (now (accepting .entry))) start (now (system .entry)) (r .ranks) (r .limit) ⌝ }
+    ensures { λ r. ⌜ length (r .ranks) ≡ stateLimit ⌝ }
 {
     let mut best: [Rank; STATE_LIMIT] = *system;
     let mut needs: [Rank; STATE_LIMIT] = first_needs(system, g.states);

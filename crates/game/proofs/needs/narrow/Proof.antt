@@ -14,7 +14,7 @@ use Rattle.game.proofs.needs.narrow.Tie as tie
 
 abbrev Inv-loop : tie.InvT-loop
 Inv-loop g transitions accepting start system witness₀ best₀ needs₀ low₀ high₀ witness best needs low high =
-    Between (arenaOf g transitions accepting) start system best needs low high × (length needs ≡ stateLimit)
+    Between (arenaOf g transitions accepting) start system best needs low high × (length needs ≡ stateLimit) × (length best ≡ stateLimit)
 
 abbrev μ-loop : tie.MeasureT-loop
 μ-loop g transitions accepting start system witness₀ best₀ needs₀ low₀ high₀ witness best needs low high = high - low
@@ -43,9 +43,10 @@ narrow-spec =
     (λ c κs. c .before .before .before .pre .0 .moving .states-fit)
     (λ c. record { fits = omega (arith, c .before .before .before .before .before .pre .0 .moving .states-fit) })
     (λ c.
-    let p = c .before .before .before .before .before .pre .1 in
+    let p = c .before .before .before .before .before .pre in
+    let q = p .1 .1 in
     let m = c .before .first-needs .ensures in
-    (search-starts (p .0 .0) (p .1 .0) (p .1 .1) (p .0 .1) (m .0), m .1))
+    (search-starts (p .1 .0 .0) (p .0 .moving .states-fit) (q .0) (q .1 .0) (q .1 .1 .0) (p .1 .0 .1) (m .0), m .1, q .1 .1 .1))
     (λ c.
     let s = c .before .before .before .before .before .before .pre .0 .moving .states-fit in
     omega (arith, c .loop .inv .0 .apart, c .loop .inv .0 .few))
@@ -62,10 +63,11 @@ narrow-spec =
     let w = c .before in
     let l = here w .loop in
     let t = tried w in
-    (search-higher (l .inv .0) (w .settled .ensures .0) (t .0) (t .1) (begin w .pre .1 .0 .0) (c .if1 .taken), l .inv .1))
+    (search-higher (l .inv .0) (w .settled .ensures .0) (t .0) (t .1) (begin w .pre .1 .0 .0) (c .if1 .taken), l .inv .1, l .inv .2))
     (λ c. let t = tried (c .before) in omega (arith, t .0, t .1))
     (λ c.
     let w = c .before in
     let t = tried w in
-    (search-lower (here w .loop .inv .0) (w .settled .ensures .0) (t .0) (t .1) (c .if1 .left), w .settled .ensures .1))
-    (λ c. let l = c .before .loop in search-ends (l .inv .0) (omega arith)))
+    let e = w .settled .ensures in
+    (search-lower (here w .loop .inv .0) (e .0) (t .0) (t .1) (c .if1 .left), e .1, e .1))
+    (λ c. let l = c .before .loop in (search-ends (l .inv .0) (omega arith), l .inv .2)))

@@ -10,7 +10,7 @@ use Rattle.automaton.specs.Limits.{stateLimit}
 use Rattle.game.specs.inner.Game.{arenaOf}
 use Rattle.game.specs.inner.Needs.{Bounds, Shrinks}
 use Rattle.reader.proofs.BoolLaws.{not-true→, not-false→}
-use Rattle.game.proofs.LiftLaws.{sweeps-end}
+use Rattle.game.proofs.LiftLaws.{sweeps-end, sweeps-low}
 use Rattle.game.proofs.HeightLaws.{heightSum, sum-bound, sum-more}
 use Rattle.game.proofs.needs.settled.Statement.{statement}
 use Rattle.game.proofs.needs.settled.Tie as tie
@@ -58,7 +58,15 @@ settled-spec =
     (e .0 .bounds, (λ t p. here w .loop .inv .1 t (e .0 .kept t p)), e .1))
     (λ c.
     let l = c .before .loop in
-    (record { bounds = l .inv .0; kept = l .inv .1; ranked = λ p. absurd (let z : ⊥ = omega (arith, c .loop-test .left) in z) }, l .inv .2))
+    let none = c .loop-test .left in (
+      record {
+        bounds = l .inv .0;
+        kept = l .inv .1;
+        ranked = λ p. absurd (let z : ⊥ = omega (arith, none) in z);
+        low = λ p. absurd (let z : ⊥ = omega (arith, none) in z);
+      },
+      l .inv .2,
+    ))
     (λ c.
     let w = c .before in
     let e = w .sweep .ensures in (
@@ -66,6 +74,7 @@ settled-spec =
         bounds = e .0 .bounds;
         kept = λ t p. here w .loop .inv .1 t (e .0 .kept t p);
         ranked = λ _. sweeps-end (e .0) (not-true→ _ (c .if1 .taken));
+        low = λ _. sweeps-low (e .0) (not-true→ _ (c .if1 .taken));
       },
       e .1,
     )))

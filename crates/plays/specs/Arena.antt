@@ -20,10 +20,6 @@ Input = ℕ
 abbrev pub Output : Type 0
 Output = ℕ
 
--- the two players
-pub data Player : Type 0 where
-  system environment : Player
-
 -- n states, 2^i input and 2^o output numbers, the transitions, the accepting flags and the assumption as a mask: the specification's moves, marks and condition
 pub record Arena : Type 0 where
   pub states : ℕ

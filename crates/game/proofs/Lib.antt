@@ -13,6 +13,7 @@ pub mod OuterRankLaws
 pub mod LiftLaws
 pub mod HeightLaws
 pub mod NarrowLaws
+pub mod WidenLaws
 pub mod SolutionLaws
 pub mod TableLaws
 pub mod StrategyLaws

@@ -14,6 +14,7 @@ pub mod OuterRankLaws
 pub mod LiftLaws
 pub mod HeightLaws
 pub mod NarrowLaws
+pub mod WidenLaws
 pub mod SolutionLaws
 pub mod TableLaws
 pub mod EntryFilled

@@ -50,12 +50,12 @@ height-raised l k p small =
 
 -- ---- a look at one state
 
-beq-true : (b : Bool) → Bool·beq b true ≡ b
+pub beq-true : (b : Bool) → Bool·beq b true ≡ b
 beq-true true = refl
 beq-true false = refl
 
 -- a rank that is not below the limit is at least the limit
-not-ranked : (limit : ℕ) (r : List ℕ) (t : ℕ) → rankedBelow limit r t ≡ false → 0 < getD r t 0 → limit ≤ getD r t 0
+pub not-ranked : (limit : ℕ) (r : List ℕ) (t : ℕ) → rankedBelow limit r t ≡ false → 0 < getD r t 0 → limit ≤ getD r t 0
 not-ranked limit r t e p = below-or (getD r t 0) limit (λ l. clash (rankedBelow limit r t) (below-ranked limit r t p l) e) (λ l. l)
 
 -- a state without a need has none to lift

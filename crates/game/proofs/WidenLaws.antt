@@ -11,14 +11,14 @@ use lib.ListN.{length, getD, set}
 use lib.Seq.{getD-set-same, getD-set-other}
 use borrow.Author.Tests.{leb-true, leb-false}
 use Rattle.plays.specs.Arena.{Arena, next, holds}
-use Rattle.plays.specs.inner.Rank.{Forces, Falls, Ranked}
+use Rattle.plays.specs.inner.Rank.{Forces, Falls}
 use Rattle.plays.specs.inner.Beaten.{Beaten, over, forced}
 use Rattle.game.specs.inner.Game.{Valid}
 use Rattle.game.specs.inner.Serving.{rankedBelow, safeBelow, FirstUnserved}
 use Rattle.game.specs.inner.Rounds.{Extends}
-use Rattle.game.specs.inner.Needs.{Shrinks, UnrankedBeaten, Enters, Bars, Opened, Widening, Widened, Wide}
+use Rattle.game.specs.inner.Needs.{UnrankedBeaten, Enters, Bars, Opened, Widening, Widened, Wide}
 use Rattle.reader.proofs.BoolLaws.{on, clash}
-use Rattle.plays.proofs.CaseLaws.{zero-or, same-or, below-or}
+use Rattle.plays.proofs.CaseLaws.{zero-or, same-or}
 use Rattle.game.proofs.LimitLaws.{ranked-below}
 use Rattle.game.proofs.IndexLaws.{next-below}
 use Rattle.game.proofs.ForcingLaws.{forces-map}
@@ -55,11 +55,13 @@ module _ {G : Arena} (m : ℕ) (needs : List ℕ) (p : ℕ) {s r : ℕ} (u : Fir
     one,
     λ y h.
         let t = next G s r y in
-        let w = unserved-at u one y h in
-        (w .0, λ some. (
-          (λ e. not-ranked p needs t (rw e at (w .1)) some),
-          (λ e. omega (arith, not-ranked (m + 1) needs t (sym (beq-true (rankedBelow (m + 1) needs t)) ∙ rw e at (w .1)) some)),
-        )),
+        let w = unserved-at u one y h in (
+          w .0,
+          λ some. (
+            (λ e. not-ranked p needs t (rw e at (w .1)) some),
+            (λ e. omega (arith, not-ranked (m + 1) needs t (sym (beq-true (rankedBelow (m + 1) needs t)) ∙ rw e at (w .1)) some)),
+          ),
+        ),
   )
 
   pub opens-by : (system : List ℕ) → 0 < getD system s 0 → getD needs s 0 ≡ 0 → Opened G m system needs p s (leb (G .inputs) r)

@@ -1,5 +1,5 @@
--- `game::needs::widened` meets its contract. The invariant: the needs are those of the passes before p, and at least p - limit - 1 states have one. The measure
--- is how many states may still get one.
+-- `game::needs::widened` meets its contract. The invariant: the needs are those of the passes before p, and at least p - limit - 1 states have one.
+-- The measure is how many states may still get one.
 -- Assumes nothing.
 use mathlib.Core.Path.{_≡_, refl}
 use Prim.Native.Nat.{_+_, _-_, _<_, _≤_}

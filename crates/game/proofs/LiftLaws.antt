@@ -10,12 +10,12 @@ use lib.ListN.{length, getD, set}
 use lib.Seq.{getD-set-same, getD-set-other}
 use borrow.Author.Tests.{eq-eqb, ne-eqb, lt-ltb, le-ltb}
 use Rattle.automaton.specs.Limits.{stateLimit}
-use Rattle.plays.specs.Arena.{Arena, next, holds}
-use Rattle.plays.specs.inner.Rank.{Forces, Falls, Ranked}
+use Rattle.plays.specs.Arena.{Arena, next, goal, holds}
+use Rattle.plays.specs.inner.Rank.{Forces, Ranked}
 use Rattle.plays.specs.inner.Beaten.{Beaten, forced}
 use Rattle.game.specs.inner.Game.{Valid}
 use Rattle.game.specs.inner.Serving.{rankedBelow, safeBelow, FirstUnserved}
-use Rattle.game.specs.inner.Needs.{Bounds, Shrinks, Stands, raisedNeed, heightOf, Higher, NextNeed, Swept}
+use Rattle.game.specs.inner.Needs.{Bounds, Shrinks, Stands, raisedNeed, heightOf, Higher, NextNeed, Swept, Enters, Bars}
 use Rattle.reader.proofs.BoolLaws.{on, clash}
 use Rattle.plays.proofs.CaseLaws.{zero-or, same-or, below-or}
 use Rattle.game.proofs.LimitLaws.{ranked-below, below-ranked}
@@ -50,13 +50,46 @@ height-raised l k p small =
 
 -- ---- a look at one state
 
-pub beq-true : (b : Bool) → Bool·beq b true ≡ b
+beq-true : (b : Bool) → Bool·beq b true ≡ b
 beq-true true = refl
 beq-true false = refl
 
 -- a rank that is not below the limit is at least the limit
-pub not-ranked : (limit : ℕ) (r : List ℕ) (t : ℕ) → rankedBelow limit r t ≡ false → 0 < getD r t 0 → limit ≤ getD r t 0
+not-ranked : (limit : ℕ) (r : List ℕ) (t : ℕ) → rankedBelow limit r t ≡ false → 0 < getD r t 0 → limit ≤ getD r t 0
 not-ranked limit r t e p = below-or (getD r t 0) limit (λ l. clash (rankedBelow limit r t) (below-ranked limit r t p l) e) (λ l. l)
+
+-- what the first input that no output serves says of state s: every input has an output into a need below p, or within the limit m, as its condition asks,
+-- or one has none
+module _ {G : Arena} (m : ℕ) (needs : List ℕ) (p : ℕ) {s r : ℕ} (u : FirstUnserved G (rankedBelow p needs) (safeBelow true (m + 1) needs) s r) where
+  pub all-enter : G .inputs ≤ r → Forces G true s (Enters G m p needs)
+  all-enter all x h =
+      let w = served-at u all x h in
+      let t = next G s x (w .0) in (
+        w .0,
+        w .1,
+        ⊎-elim
+            (λ g. _⊎_.inl g)
+            (λ d. _⊎_.inr (on (holds G x)
+            (λ e. let q = ranked-below p needs t (rw e at (d .1)) in (q .0, (λ _. q .1), (λ z. clash (holds G x) e z)))
+            (λ e.
+            let q = ranked-below (m + 1) needs t (sym (beq-true (rankedBelow (m + 1) needs t)) ∙ rw e at (d .1)) in
+            (q .0, (λ z. clash (holds G x) z e), (λ _. omega (arith, q .1))))))
+            (w .2),
+      )
+
+  bars-at : r < G .inputs → (y : ℕ) → y < G .outputs → (goal G (next G s r y) ≡ false) × Bars G m p needs r (next G s r y)
+  bars-at one y h =
+      let t = next G s r y in
+      let w = unserved-at u one y h in (
+        w .0,
+        λ some. (
+          (λ e. not-ranked p needs t (rw e at (w .1)) some),
+          (λ e. omega (arith, not-ranked (m + 1) needs t (sym (beq-true (rankedBelow (m + 1) needs t)) ∙ rw e at (w .1)) some)),
+        ),
+      )
+
+  pub one-bars : r < G .inputs → Forces G false s (Bars G m p needs)
+  one-bars one = (r, one, bars-at one)
 
 -- a state without a need has none to lift
 pub look-none : {G : Arena} {l : ℕ} {needs : List ℕ} {s : ℕ} → getD needs s 0 ≡ 0 → NextNeed G l needs s 0
@@ -87,28 +120,11 @@ module _ {G : Arena} (v : Valid G) {l : ℕ} {needs : List ℕ} {s r : ℕ} (b :
   abbrev own : ℕ
   own = getD needs s 0
 
-  -- an output that serves an input lets the needs fall
-  falls : G .inputs ≤ r → Forces G true s (Falls G true false l needs s)
-  falls all x h =
-      let w = served-at u all x h in
-      let t = next G s x (w .0) in (
-        w .0,
-        w .1,
-        ⊎-elim
-            (λ g. _⊎_.inl g)
-            (λ d. _⊎_.inr (on (holds G x)
-            (λ e. let q = ranked-below own needs t (rw e at (d .1)) in (q .0, (λ _. q .1), (λ z. clash (holds G x) e z)))
-            (λ e.
-            let q = ranked-below (l + 1) needs t (sym (beq-true (rankedBelow (l + 1) needs t)) ∙ rw e at (d .1)) in
-            (q .0, (λ z. clash (holds G x) z e), (λ _. omega (arith, q .1))))))
-            (w .2),
-      )
-
   -- all inputs are served: the need stands
   pub look-stands : G .inputs ≤ r → NextNeed G l needs s own
   look-stands all =
       record {
-        stands = λ _ _. (within, falls all);
+        stands = λ _ _. (within, all-enter l needs own u all);
         lifts = λ d. absurd (d refl);
       }
 
@@ -116,15 +132,15 @@ module _ {G : Arena} (v : Valid G) {l : ℕ} {needs : List ℕ} {s r : ℕ} (b :
     entered : (y : ℕ) → y < G .outputs → next G s r y < G .states
     entered y hy = next-below v s r y hs one hy
 
+    bars : (y : ℕ) → y < G .outputs → (goal G (next G s r y) ≡ false) × Bars G l own needs r (next G s r y)
+    bars = bars-at l needs own u one
+
     -- an input with the condition is unserved: each output leaves the system beaten with one less than the need, so it is beaten with the need
     module _ (has : holds G r ≡ true) where
       beaten-own : Beaten false G l s own
       beaten-own =
-          forced {k = own} r one (λ y h. unserved-at u one y h .0)
-          (λ y h.
-          let t = next G s r y in
-          let e = rw has at (unserved-at u one y h .1) in
-          rw has (b .beaten t (own - 1) (entered y h) (omega arith) (λ w. omega (arith, not-ranked own needs t e w))))
+          forced {k = own} r one (λ y h. bars y h .0)
+          (λ y h. rw has (b .beaten (next G s r y) (own - 1) (entered y h) (omega arith) (λ w. omega (arith, bars y h .1 w .0 has))))
 
       raised-beaten : (k : ℕ) → k ≤ l → (0 < raisedNeed l own → k < raisedNeed l own) → Beaten false G l s k
       raised-beaten k kl q =
@@ -150,11 +166,8 @@ module _ {G : Arena} (v : Valid G) {l : ℕ} {needs : List ℕ} {s r : ℕ} (b :
     module _ (has : holds G r ≡ false) where
       beaten-all : (k : ℕ) → Beaten false G l s k
       beaten-all k =
-          forced {k = k} r one (λ y h. unserved-at u one y h .0)
-          (λ y h.
-          let t = next G s r y in
-          let e = sym (beq-true (rankedBelow (l + 1) needs t)) ∙ rw has at (unserved-at u one y h .1) in
-          rw has (b .beaten t l (entered y h) (omega arith) (λ w. omega (arith, not-ranked (l + 1) needs t e w))))
+          forced {k = k} r one (λ y h. bars y h .0)
+          (λ y h. rw has (b .beaten (next G s r y) l (entered y h) (omega arith) (λ w. bars y h .1 w .1 has)))
 
       pub look-drops : NextNeed G l needs s 0
       look-drops =

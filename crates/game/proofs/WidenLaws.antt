@@ -3,7 +3,6 @@
 use mathlib.Core.Path.{_≡_, refl, sym, ap, _∙_, subst}
 use mathlib.Core.Bool.{Bool, true, false}
 use mathlib.Core.List.{List}
-use mathlib.Core.Logic.{_⊎_, ⊎-elim}
 use Prim.Native.Nat.{ℕ, zero, suc, _+_, _-_, _<_, _≤_}
 use native.Mathlib.Omega.{arith}
 use lib.Dec.{leb}
@@ -17,13 +16,11 @@ use Rattle.game.specs.inner.Game.{Valid}
 use Rattle.game.specs.inner.Serving.{rankedBelow, safeBelow, FirstUnserved}
 use Rattle.game.specs.inner.Rounds.{Extends}
 use Rattle.game.specs.inner.Needs.{UnrankedBeaten, Enters, Bars, Opened, Widening, Widened, Wide}
-use Rattle.reader.proofs.BoolLaws.{on, clash}
+use Rattle.reader.proofs.BoolLaws.{on}
 use Rattle.plays.proofs.CaseLaws.{zero-or, same-or}
-use Rattle.game.proofs.LimitLaws.{ranked-below}
 use Rattle.game.proofs.IndexLaws.{next-below}
 use Rattle.game.proofs.ForcingLaws.{forces-map}
-use Rattle.game.proofs.ServingLaws.{served-at, unserved-at}
-use Rattle.game.proofs.LiftLaws.{beq-true, not-ranked}
+use Rattle.game.proofs.LiftLaws.{all-enter, one-bars}
 
 -- ---- a look at one state
 
@@ -32,44 +29,13 @@ pub opens-not : {G : Arena} {m : ℕ} {system needs : List ℕ} {p s : ℕ} → 
 opens-not h = record { gains = λ e. absurd (mathlib.Core.Bool.false≢true e); stays = λ e w z. absurd (h w z) }
 
 -- for another the first input that no output serves decides
-module _ {G : Arena} (m : ℕ) (needs : List ℕ) (p : ℕ) {s r : ℕ} (u : FirstUnserved G (rankedBelow p needs) (safeBelow true (m + 1) needs) s r) where
-  all-enter : G .inputs ≤ r → Forces G true s (Enters G m p needs)
-  all-enter all x h =
-      let w = served-at u all x h in
-      let t = next G s x (w .0) in (
-        w .0,
-        w .1,
-        ⊎-elim
-            (λ g. _⊎_.inl g)
-            (λ d. _⊎_.inr (on (holds G x)
-            (λ e. let q = ranked-below p needs t (rw e at (d .1)) in (q .0, (λ _. q .1), (λ z. clash (holds G x) e z)))
-            (λ e.
-            let q = ranked-below (m + 1) needs t (sym (beq-true (rankedBelow (m + 1) needs t)) ∙ rw e at (d .1)) in
-            (q .0, (λ z. clash (holds G x) z e), (λ _. omega (arith, q .1))))))
-            (w .2),
-      )
-
-  one-bars : r < G .inputs → Forces G false s (Bars G m p needs)
-  one-bars one = (
-    r,
-    one,
-    λ y h.
-        let t = next G s r y in
-        let w = unserved-at u one y h in (
-          w .0,
-          λ some. (
-            (λ e. not-ranked p needs t (rw e at (w .1)) some),
-            (λ e. omega (arith, not-ranked (m + 1) needs t (sym (beq-true (rankedBelow (m + 1) needs t)) ∙ rw e at (w .1)) some)),
-          ),
-        ),
-  )
-
-  pub opens-by : (system : List ℕ) → 0 < getD system s 0 → getD needs s 0 ≡ 0 → Opened G m system needs p s (leb (G .inputs) r)
-  opens-by system won none =
-      record {
-        gains = λ e. (won, none, all-enter (leb-true (G .inputs) r e));
-        stays = λ e _ _. one-bars (leb-false (G .inputs) r e);
-      }
+pub opens-by : {G : Arena} (m : ℕ) (needs : List ℕ) (p : ℕ) {s r : ℕ} → FirstUnserved G (rankedBelow p needs) (safeBelow true (m + 1) needs) s r
+    → (system : List ℕ) → 0 < getD system s 0 → getD needs s 0 ≡ 0 → Opened G m system needs p s (leb (G .inputs) r)
+opens-by {G} m needs p {s} {r} u system won none =
+    record {
+      gains = λ e. (won, none, all-enter m needs p u (leb-true (G .inputs) r e));
+      stays = λ e _ _. one-bars m needs p u (leb-false (G .inputs) r e);
+    }
 
 -- ---- a pass
 

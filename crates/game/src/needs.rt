@@ -261,7 +261,17 @@ fn widen(
     let mut gave = false;
     let mut s: usize = 0;
     while s < states {
-        if opened(g, transitions, accepting, limit, system, needs, p, s, witness) {
+        if opened(
+            g,
+            transitions,
+            accepting,
+            limit,
+            system,
+            needs,
+            p,
+            s,
+            witness,
+        ) {
             needs[s] = p;
             gave = true;
         }
@@ -288,7 +298,16 @@ pub(crate) fn widened(
 {
     let mut needs: [Rank; STATE_LIMIT] = *low;
     let mut p: Rank = limit + 1;
-    while widen(g, transitions, accepting, limit, system, &mut needs, p, witness) {
+    while widen(
+        g,
+        transitions,
+        accepting,
+        limit,
+        system,
+        &mut needs,
+        p,
+        witness,
+    ) {
         p += 1;
     }
     needs

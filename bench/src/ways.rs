@@ -8,6 +8,8 @@
 //!           the one before it, and the first on the chain's head. They are dropped one after the other
 //! climbing  the same, but between two that rest stands one that loops under the condition, or goes to the one before it
 //!           or to the chain's head. Once the one before it is dropped its need climbs, one at a time, to the head's
+//! above     a chain of all states but the start and the goal, on which the last output alone goes one position on and the
+//!           others lead to its head; without the condition the goal is entered. All needs but two are above the number, 1
 //! crowded   a line on which the last output alone goes one position on; behind its end all states hang on the end, and
 //!           every other output leads into that crowd. The start is near the goal, so that the number is small
 //!
@@ -56,6 +58,16 @@ pub fn chain(n: usize, size: (usize, usize)) -> Given {
 /// A ring.
 pub fn ring(n: usize, size: (usize, usize)) -> Given {
     given(n, size, 0, 0, |s, x, _| if x == 0 { (s + 1) % n } else { s })
+}
+
+/// A chain of needs above the number.
+pub fn above(n: usize, (i, o): (usize, usize)) -> Given {
+    let (goal, last) = (n - 1, (1 << o) - 1);
+    given(n, (i, o), n - 2, goal, |s, x, y| match s {
+        s if s + 3 > n || x != 0 || s + 3 == n && y == last => goal,
+        s if y == last => s + 1,
+        _ => 0,
+    })
 }
 
 /// A line of so many states with a crowd behind it; the start is the one with the number r.

@@ -12,7 +12,6 @@
 //! side are what is left of all pairs when those are taken away, again and again, from which it cannot keep to the others.
 
 use crate::game::{greatest, least, Board, States};
-use crate::Mode;
 
 /// A number for each state that has one.
 pub type Numbers = Vec<Option<usize>>;
@@ -29,9 +28,9 @@ pub fn rounds(board: &Board) -> Numbers {
     first_places(board.game.n, &sets)
 }
 
-/// The distances of the states that the outside wins when fair, given the rounds of the others.
-pub fn distances(board: &Board, rounds: &Numbers) -> Numbers {
-    let own = (0..board.game.n).filter(|&s| rounds[s].is_none()).fold(0, |set, s| set | 1 << s);
+/// The distances of the states that the outside wins when fair, given who wins each.
+pub fn distances(board: &Board, wins: &[bool]) -> Numbers {
+    let own = (0..board.game.n).filter(|&s| !wins[s]).fold(0, |set, s| set | 1 << s);
     first_places(board.game.n, &least(|near| board.outside_step(own, near)))
 }
 
@@ -100,13 +99,4 @@ pub fn start_needs(board: &Board, start: usize) -> (usize, Numbers) {
         }
     }
     panic!("a state that the station wins has a round number of at most n");
-}
-
-/// The round number of a start, given who wins each state: 0 where the outside does.
-pub fn round_number(board: &Board, wins: &[bool], start: usize) -> usize {
-    match board.game.mode {
-        _ if !wins[start] => 0,
-        Mode::Fair => rounds(board)[start].expect("a state that the station wins has a round"),
-        Mode::Stable => start_needs(board, start).0,
-    }
 }

@@ -1,6 +1,6 @@
 //! Both tables, each byte by its rule (specification, "Tables") over the numbers of the states.
 
-use crate::game::{Board, Game};
+use crate::game::{winners, Board, Game};
 use crate::numbers::{distances, needs, numbers, rounds, start_needs, Numbers};
 use crate::Mode;
 
@@ -71,34 +71,40 @@ fn outside_by_distances(game: &Game, distances: &Numbers) -> Vec<u8> {
     (0..game.n).map(byte).collect()
 }
 
+/// The numbers of a side, which has one for exactly the states that it wins.
+fn held(numbers: Numbers, wins: &[bool], side: bool) -> Numbers {
+    assert!((0..wins.len()).all(|s| numbers[s].is_some() == (wins[s] == side)), "a side has the wrong numbers");
+    numbers
+}
+
 /// Both tables when fair.
-fn fair(game: &Game, start: usize) -> Tables {
-    let board = Board::new(game);
-    let rounds = rounds(&board);
-    let distances = distances(&board, &rounds);
+fn fair(board: &Board, wins: &[bool], start: usize) -> Tables {
+    let rounds = held(rounds(board), wins, true);
+    let distances = held(distances(board, wins), wins, false);
     Tables {
-        station: station_table(game, |s| row(game, &rounds, |own| own, s)),
-        outside: outside_by_distances(game, &distances),
+        station: station_table(board.game, |s| row(board.game, &rounds, |own| own, s)),
+        outside: outside_by_distances(board.game, &distances),
         round: rounds[start].unwrap_or(0),
     }
 }
 
 /// Both tables when stable.
-fn stable(game: &Game, start: usize) -> Tables {
-    let board = Board::new(game);
-    let far = needs(&board, game.n);
-    let outside = outside_by_numbers(game, &numbers(&board));
-    if far[start].is_none() {
-        return Tables { station: station_by_needs(game, (game.n, &far), &far), outside, round: 0 };
+fn stable(board: &Board, wins: &[bool], start: usize) -> Tables {
+    let (game, n) = (board.game, board.game.n);
+    let far = held(needs(board, n), wins, true);
+    let outside = outside_by_numbers(game, &held(numbers(board), wins, false));
+    if !wins[start] {
+        return Tables { station: station_by_needs(game, (n, &far), &far), outside, round: 0 };
     }
-    let (round, near) = start_needs(&board, start);
+    let (round, near) = start_needs(board, start);
     Tables { station: station_by_needs(game, (round, &near), &far), outside, round }
 }
 
-/// Builds both tables for a start.
+/// Builds both tables for a start. Who wins each state is found first, by each side's own fixpoint.
 pub fn build(game: &Game, start: usize) -> Tables {
+    let (board, wins) = (Board::new(game), winners(game));
     match game.mode {
-        Mode::Fair => fair(game, start),
-        Mode::Stable => stable(game, start),
+        Mode::Fair => fair(&board, &wins, start),
+        Mode::Stable => stable(&board, &wins, start),
     }
 }

@@ -8,7 +8,7 @@ use solver::chance::Chance;
 use solver::game::{winners, Board, Game};
 use solver::judge::judge;
 use solver::longest::{edges_from, most_marked, Edge};
-use solver::numbers::{distances, needs, numbers, round_number, rounds, start_needs, Numbers};
+use solver::numbers::{distances, needs, numbers, rounds, start_needs, Numbers};
 use solver::tables::{build, Tables};
 use solver::Mode::*;
 
@@ -64,7 +64,7 @@ fn the_lowest_input() {
     };
     let [fair, stable] = [Fair, Stable].map(|mode| Game { mask: 2, ..game(mode, (2, 0, 4), &[3], law) });
     let (fair, stable) = (Board::new(&fair), Board::new(&stable));
-    assert_eq!(distances(&fair, &rounds(&fair)), [Some(3), Some(2), Some(1), None]);
+    assert_eq!(distances(&fair, &winners(fair.game)), [Some(3), Some(2), Some(1), None]);
     assert_eq!(numbers(&stable), [Some(2), Some(1), Some(0), None]);
     assert_eq!(build(fair.game, 0).outside, [2, 2, 1, 255]);
     assert_eq!(build(stable.game, 0).outside, [2, 2, 1, 255]);
@@ -144,13 +144,12 @@ fn by_plays(game: &Game) -> (usize, bool, bool, usize) {
     let bytes = |start: usize| {
         let Tables { station, outside, round } = build(game, start);
         assert_eq!(Some(round).filter(|&round| round > 0), starts[start], "{game:?}");
-        assert_eq!(round, round_number(&board, &wins, start));
         (station, outside)
     };
     if game.mode == Fair {
         let (by_rounds, by_distances) = fair_by_plays(game, &wins);
         assert_eq!(rounds(&board), by_rounds, "{game:?}");
-        assert_eq!(distances(&board, &by_rounds), by_distances, "{game:?}");
+        assert_eq!(distances(&board, &wins), by_distances, "{game:?}");
         let wanted = fair_tables(game, &by_rounds, &by_distances);
         (0..game.n).for_each(|start| assert_eq!(bytes(start), wanted, "{game:?}"));
         return (largest(&by_rounds), false, false, largest(&by_distances));
@@ -281,7 +280,7 @@ fn the_best_tables_keep_the_numbers() {
             let rounds = rounds(&board);
             assert_eq!(best(&game, station, |table, s| kept_round(&game, table, s)), rounds, "{game:?}");
             let wanted = best(&game, outside, |table, s| kept_distance(&game, &wins, table, s));
-            assert_eq!(wanted, distances(&board, &rounds), "{game:?}");
+            assert_eq!(wanted, distances(&board, &wins), "{game:?}");
         } else {
             let m = chance.between(1, game.n + 1);
             assert_eq!(
@@ -314,7 +313,7 @@ fn the_tables_keep_all_numbers_at_once() {
         if game.mode == Fair {
             let rounds = rounds(&board);
             kept(true, &rounds, &|s| kept_round(&game, &station, s));
-            kept(false, &distances(&board, &rounds), &|s| kept_distance(&game, &wins, &outside, s));
+            kept(false, &distances(&board, &wins), &|s| kept_distance(&game, &wins, &outside, s));
         } else {
             let m = if tables.round > 0 { tables.round } else { game.n };
             kept(true, &needs(&board, m), &|s| kept_need(&game, &station, m, s));
@@ -335,7 +334,7 @@ fn who_has_a_number() {
         };
         if game.mode == Fair {
             let rounds = rounds(&board);
-            assert!(has(&rounds, 1, game.n, true) && has(&distances(&board, &rounds), 1, game.n, false), "{game:?}");
+            assert!(has(&rounds, 1, game.n, true) && has(&distances(&board, &wins), 1, game.n, false), "{game:?}");
         } else {
             assert!(
                 has(&needs(&board, game.n), 1, game.n, true) && has(&numbers(&board), 0, game.n - 1, false),

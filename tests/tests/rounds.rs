@@ -7,7 +7,7 @@ use solver::chance::Chance;
 use solver::game::{winners, Board, Game};
 use solver::judge::judge;
 use solver::longest::{edges_from, most_in_a_row, most_marked, Edge};
-use solver::numbers::{needs, round_number};
+use solver::numbers::needs;
 use solver::tables::build;
 use solver::Mode::*;
 
@@ -15,7 +15,6 @@ use solver::Mode::*;
 fn number(game: &Game, start: usize) -> usize {
     let wins = winners(game);
     let tables = build(game, start);
-    assert_eq!(tables.round, round_number(&Board::new(game), &wins, start));
     assert_eq!(judge(game, start, tables.round, &tables.station, &tables.outside), Ok(wins));
     tables.round
 }
@@ -129,7 +128,7 @@ fn the_best_table_keeps_the_round_number() {
         let start = chance.below(game.n);
         let tables = game.outputs().pow((game.n * game.inputs()) as u32);
         let best = (0..tables).filter_map(|k| kept(&game, &table(&game, k), start)).min();
-        let wanted = round_number(&Board::new(&game), &winners(&game), start);
+        let wanted = build(&game, start).round;
         assert_eq!(best.unwrap_or(0), wanted, "{game:?}");
         counts[wanted] += 1;
     }

@@ -2,7 +2,7 @@
 
 use solver::calls::Verdict;
 use solver::game::{Board, Game};
-use solver::numbers::{distances, needs, numbers, rounds, Numbers};
+use solver::numbers::{distances, needs, numbers, Numbers};
 use solver::tables::station_by_needs;
 use solver::Mode;
 use std::collections::BTreeMap;
@@ -47,7 +47,7 @@ impl Served<'_> {
     fn largest(&self) -> usize {
         let board = Board::new(self.game);
         let numbers = match self.game.mode {
-            Mode::Fair => distances(&board, &rounds(&board)),
+            Mode::Fair => distances(&board, self.wins),
             Mode::Stable => numbers(&board),
         };
         numbers.into_iter().flatten().max().unwrap_or(0)

@@ -1,6 +1,6 @@
-//! Given automata that ask much of a search for the round number in the stable mode (crates/game/src/needs.rt: limits are
-//! tried, and for each the needs of the states are lifted one by one until they stand). Only input 0 has the condition;
-//! positions stand on a way to the last one, the goal, and their numbers go up or down along it.
+//! Given automata that ask much of a search for the round number in the stable mode (crates/game/src/needs.rt: limits
+//! are tried, and for each the needs of the states are lifted one by one until they stand). Only input 0 has the
+//! condition; positions stand on a way to the last one, the goal, and their numbers go up or down along it.
 //!
 //! chain     a step with the condition goes one position on: every need is one more than the next
 //! ring      the same without an end: the start, the only goal, is entered again by the n-th step
@@ -13,9 +13,10 @@
 //! crowded   a line on which the last output alone goes one position on; behind its end all states hang on the end, and
 //!           every other output leads into that crowd. The start is near the goal, so that the number is small
 //!
-//! The start is a state beside the way that enters the goal at once, the chain's head, its middle, or the last that rests.
-//! In the first case the number is 1 and all else is of no use; at the head the start fails a limit early; in the middle
-//! it keeps a need with many limits with which the rest has to be worked out; the last is dropped last of all.
+//! The start is a state beside the way that enters the goal at once, the chain's head, its middle, or the last that
+//! rests. In the first case the number is 1 and all else is of no use; at the head the start fails a limit early; in
+//! the middle it keeps a need with many limits with which the rest has to be worked out; the last is dropped last of
+//! all.
 
 use solver::calls::Given;
 

@@ -1,7 +1,7 @@
 //! Judges tables, whoever made them, by the graph of plays that follow them: a second look, which uses no number of a
-//! state. Every byte is determined (tables.rs); this only finds out whether a table holds good, as others would too. A table
-//! says by its own bytes which states it wins: the winner's bytes are in range and the loser's are 255. Each such claim is
-//! then checked exactly, from every state:
+//! state. Every byte is determined (tables.rs); this only finds out whether a table holds good, as others would too. A
+//! table says by its own bytes which states it wins: the winner's bytes are in range and the loser's are 255. Each such
+//! claim is then checked exactly, from every state:
 //!
 //! station  no play that has not entered a goal comes to a byte that is no output; in fair mode it
 //!          has fewer than n steps with the condition, in stable mode fewer than n of them in a row;

@@ -306,10 +306,10 @@ fn route(chance: &mut Chance, (kind, last): (usize, usize), k: usize, y: usize, 
     }
 }
 
-/// Moves, marks and a mask on which round numbers are large, and in the stable mode those of the states differ much. The
-/// states stand on a way to the last one, a goal, in the order of their numbers or against it; or on a ring, whose first
-/// one is the goal. A step with the condition goes one state on, or where the station likes, or to the last one; a step
-/// without it waits, falls back or goes anywhere.
+/// Moves, marks and a mask on which round numbers are large, and in the stable mode those of the states differ much.
+/// The states stand on a way to the last one, a goal, in the order of their numbers or against it; or on a ring, whose
+/// first one is the goal. A step with the condition goes one state on, or where the station likes, or to the last one;
+/// a step without it waits, falls back or goes anywhere.
 pub fn round_shape(chance: &mut Chance, i: usize, o: usize, n: usize) -> (Vec<u8>, Vec<u8>, u16) {
     let (inputs, outputs, last) = (1usize << i, 1usize << o, n - 1);
     let all = ((1u32 << inputs) - 1) as u16;
@@ -349,10 +349,10 @@ fn detour(chance: &mut Chance, (kind, last): (usize, usize), k: usize, x: usize,
     }
 }
 
-/// Moves, marks and a mask on which it takes the outside many steps to the condition when fair, and many steps without it
-/// when stable. The states stand on a way from a goal to the last one, in the order of their numbers or against it; the last
-/// stays where it is under the condition. From the others a step with the condition enters the goal, or stays, or goes back; a
-/// step without it goes one state on, or stays where the station likes.
+/// Moves, marks and a mask on which it takes the outside many steps to the condition when fair, and many steps without
+/// it when stable. The states stand on a way from a goal to the last one, in the order of their numbers or against it;
+/// the last stays where it is under the condition. From the others a step with the condition enters the goal, or stays,
+/// or goes back; a step without it goes one state on, or stays where the station likes.
 pub fn outside_shape(chance: &mut Chance, i: usize, o: usize, n: usize) -> (Vec<u8>, Vec<u8>, u16) {
     let (inputs, outputs, last) = (1usize << i, 1usize << o, n - 1);
     let mask = (chance.draw() as u16 & ((1u32 << inputs) - 1) as u16).max(1);
@@ -414,8 +414,8 @@ pub fn rich_rule(chance: &mut Chance, i: usize, o: usize) -> Vec<u8> {
     text.into_bytes()
 }
 
-/// Steps that need the condition's name, `a`, so many times in a row at the most, with as many operators: a step without
-/// it begins the row again, or leads to the end of the row.
+/// Steps that need the condition's name, `a`, so many times in a row at the most, with as many operators: a step
+/// without it begins the row again, or leads to the end of the row.
 fn in_a_row(chance: &mut Chance, i: usize, o: usize, length: usize) -> String {
     if chance.one_in(2) {
         return (0..length).fold("1".to_string(), |row, _| format!("(!a|X{row})"));
@@ -430,9 +430,10 @@ fn in_a_row(chance: &mut Chance, i: usize, o: usize, length: usize) -> String {
 }
 
 /// A rule in which the station chooses, at the first step or later, between rows of different lengths, so that in the
-/// stable mode with the condition `a` the states' needs differ; i and o are at least 1.
+/// stable mode with the condition `a` the states' needs differ; sometimes it can do without them at the first step. i
+/// and o are at least 1.
 pub fn row_rule(chance: &mut Chance, i: usize, o: usize) -> Vec<u8> {
-    let wait = chance.below(3);
+    let wait = chance.below(4);
     let mut left = 5 - wait.min(1);
     let mut choices = vec![];
     while left > 0 && choices.len() < 3 {
@@ -444,7 +445,8 @@ pub fn row_rule(chance: &mut Chance, i: usize, o: usize) -> Vec<u8> {
     let text = match wait {
         0 => choice,
         1 => format!("X({choice})"),
-        _ => format!("{}U({choice})", literal(chance, i, o)),
+        2 => format!("{}U({choice})", literal(chance, i, o)),
+        _ => format!("{}|X({choice})", literal(chance, 0, o)),
     };
     text.into_bytes()
 }

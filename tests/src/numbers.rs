@@ -6,10 +6,11 @@
 //! distance  outside, fair    each step costs 1, and one with the condition ends the play well
 //! number    outside, stable  a step without the condition costs 1
 //!
-//! The station has lost where its budget is used up and no goal was entered; the outside where a step enters a goal, or costs
-//! more than there is, or, when fair, enters a state that the station wins. The rest of a play depends on no more of the past
-//! than on the state and the budget that is left; so all this is found by games on such pairs. The pairs that are safe for a
-//! side are what is left of all pairs when those are taken away, again and again, from which it cannot keep to the others.
+//! The station has lost where its budget is used up and no goal was entered; the outside where a step enters a goal, or
+//! costs more than there is, or, when fair, enters a state that the station wins. The rest of a play depends on no more
+//! of the past than on the state and the budget that is left; so all this is found by games on such pairs. The pairs
+//! that are safe for a side are what is left of all pairs when those are taken away, again and again, from which it
+//! cannot keep to the others.
 
 use crate::game::{greatest, least, Board, States};
 
@@ -21,8 +22,8 @@ fn first_places(n: usize, sets: &[States]) -> Numbers {
     (0..n).map(|s| sets.iter().position(|set| set >> s & 1 == 1)).collect()
 }
 
-/// The rounds of the states that the station wins when fair. A pair is judged by pairs of its own budget and of one less,
-/// so the sets of safe states are found one after the other; with a budget of 0 none is.
+/// The rounds of the states that the station wins when fair. A pair is judged by pairs of its own budget and of one
+/// less, so the sets of safe states are found one after the other; with a budget of 0 none is.
 pub fn rounds(board: &Board) -> Numbers {
     let sets = least(|less| greatest(board.all(), |left| board.answered(left, left, less)));
     first_places(board.game.n, &sets)
@@ -40,8 +41,8 @@ pub fn numbers(board: &Board) -> Numbers {
     first_places(board.game.n, &sets[1..])
 }
 
-/// Takes pairs of the stable game for a limit away until all that are left are safe: `left` has a set of states for each
-/// budget from the limit down to 1. Stops early where the state `start` is taken from the first, if one is named.
+/// Takes pairs of the stable game for a limit away until all that are left are safe: `left` has a set of states for
+/// each budget from the limit down to 1. Stops early where the state `start` is taken from the first, if one is named.
 fn settle(board: &Board, left: &mut [States], start: Option<usize>) {
     loop {
         let mut changed = false;
@@ -67,8 +68,8 @@ fn settle_budget(board: &Board, left: &mut [States], place: usize) -> bool {
     }
 }
 
-/// The needs, given the safe states of each budget from the limit down to 1. Above the limit a pair is judged by pairs of
-/// the limit and of one less.
+/// The needs, given the safe states of each budget from the limit down to 1. Above the limit a pair is judged by pairs
+/// of the limit and of one less.
 fn needs_of(board: &Board, safe: Vec<States>) -> Numbers {
     let limit = safe[0];
     let mut sets: Vec<States> = [0].into_iter().chain(safe.into_iter().rev()).collect();

@@ -1,5 +1,5 @@
-//! The numbers of the states and the tables: plays one by one against ways with any memory, all tables of small automata,
-//! small automata by hand, and what larger ones have in common.
+//! The numbers of the states and the tables: plays one by one against ways with any memory, all tables of small
+//! automata, small automata by hand, and what larger ones have in common.
 
 mod small;
 
@@ -14,8 +14,8 @@ use solver::Mode::*;
 
 #[test]
 fn the_lowest_output_and_not_the_nearest() {
-    // 0 to 1 to the goal, 2, by output 0; output 1 enters the goal at once. Input 1 lacks the condition: output 0 goes back
-    // to 0, output 1 stays.
+    // 0 to 1 to the goal, 2, by output 0; output 1 enters the goal at once. Input 1 lacks the condition: output 0 goes
+    // back to 0, output 1 stays.
     let law = |s: usize, x: usize, y: usize| match (s, x, y) {
         (2, ..) | (_, 0, 1) => 2,
         (_, 0, _) => s + 1,
@@ -41,8 +41,8 @@ fn the_lowest_output_and_not_the_nearest() {
 
 #[test]
 fn a_need_above_m() {
-    // Under the condition output 1 goes from 0 to 1 to 2 to the goal, 3, and output 0 stays; a step without it enters the
-    // goal at once. From the start 2 m is 1, and the needs of 0 and 1 for 1 are above it.
+    // Under the condition output 1 goes from 0 to 1 to 2 to the goal, 3, and output 0 stays; a step without it enters
+    // the goal at once. From the start 2 m is 1, and the needs of 0 and 1 for 1 are above it.
     let game = game(Stable, (1, 1, 4), &[3], |s, x, y| match (x, y) {
         (1, _) => 3,
         (_, 0) => s,
@@ -55,8 +55,8 @@ fn a_need_above_m() {
 
 #[test]
 fn the_lowest_input() {
-    // 0 to 1 to 2 by inputs 2 and 3, which lack the condition; input 1 has it and enters the goal, 3, but for 2, where it
-    // stays. Input 0 lacks the condition and stays.
+    // 0 to 1 to 2 by inputs 2 and 3, which lack the condition; input 1 has it and enters the goal, 3, but for 2, where
+    // it stays. Input 0 lacks the condition and stays.
     let law = |s: usize, x: usize, _: usize| match (s, x) {
         (3, _) | (0 | 1, 1) => 3,
         (2, _) | (_, 0) => s,
@@ -135,8 +135,9 @@ fn stable_tables(game: &Game, m: usize, near: &Numbers, far: &Numbers, numbers: 
     (stations.map(|(s, x)| station(s, x)).collect(), (0..game.n).map(outside).collect())
 }
 
-/// Holds all numbers and both tables, with every start, to plays. Says what was there: the largest round or need, whether
-/// a need was above its m, whether a won state had none for a round number, the largest distance or number and 1.
+/// Holds all numbers and both tables, with every start, to plays. Says what was there: the largest round or need,
+/// whether a need was above its m, whether a won state had none for a round number, the largest distance or number and
+/// 1.
 fn by_plays(game: &Game) -> (usize, bool, bool, usize) {
     let (board, wins) = (Board::new(game), winners(game));
     let largest = |numbers: &Numbers| numbers.iter().flatten().max().copied().unwrap_or(0);

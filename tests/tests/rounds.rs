@@ -1,4 +1,5 @@
-//! The round number of a start: small automata by hand, and all tables of small automata. tests/numbers.rs holds it to plays.
+//! The round number of a start: small automata by hand, and all tables of small automata. tests/numbers.rs holds it to
+//! plays.
 
 mod small;
 
@@ -69,8 +70,9 @@ fn stable_counts_steps_in_a_row() {
     assert_eq!((fair, stable), (3, 2));
 }
 
-/// From state 0 a step without the condition leads to 1 (output 0) or to 3 (output 1), as the station likes; one with it
-/// enters the goal, 5. From 1 the goal is four steps with the condition away, and from 3 two; without it nothing changes.
+/// From state 0 a step without the condition leads to 1 (output 0) or to 3 (output 1), as the station likes; one with
+/// it enters the goal, 5. From 1 the goal is four steps with the condition away, and from 3 two; without it nothing
+/// changes.
 fn two_ways() -> Game {
     game(Stable, (1, 1, 6), &[5], |s, x, y| match (s, x, y) {
         (0, 1, 0) => 1,

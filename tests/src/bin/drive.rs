@@ -7,7 +7,7 @@
 use solver::chance::Chance;
 use solver::large::LARGE;
 use solver::listing::airtable;
-use solver::makers::{any_condition, any_text, damaged, good_condition, rule_text};
+use solver::makers::{any_condition, any_text, damaged, good_condition, row_rule, rule_text};
 use std::collections::BTreeMap;
 use std::fs::File;
 use std::io::Write;
@@ -32,6 +32,7 @@ const BY_HAND: &[&[u8]] = &[
     b"1 1\nstable\na\nF(a&X(a|F(a&XFa)))\n",
     b"1 1\nstable\na\n!p&F(a&X(a&Xa))|p&F(a&Xa)\n",
     b"1 2\nstable\na\n(qUp)RX(!p)&(!q)\n",
+    b"1 1\nstable\na\np|X(!p&F(a&Xa)|p&(!a|X1))\n",
     b"1 1\nfair\n1\nXXXXXa\n",
     b"1 1\nfair\n1\nXXXXXXa\n",
     b"1 1\nfair\n1\n\n",
@@ -135,6 +136,13 @@ fn good_input(chance: &mut Chance) -> Vec<u8> {
     [format!("{i} {o}\n").as_bytes(), mode, b"\n", &condition, b"\n", &rule, b"\n"].concat()
 }
 
+/// A rule in the stable mode on which the states' needs differ.
+fn row_input(chance: &mut Chance) -> Vec<u8> {
+    let (i, o) = (chance.between(1, 2), chance.between(1, 2));
+    let rule = row_rule(chance, i, o);
+    [format!("{i} {o}\nstable\na\n").as_bytes(), &rule, b"\n"].concat()
+}
+
 /// Four lines of any kind.
 fn any_input(chance: &mut Chance) -> Vec<u8> {
     let (i, o) = (chance.below(7), chance.below(7));
@@ -152,10 +160,11 @@ fn input(chance: &mut Chance, k: usize) -> Vec<u8> {
     if let Some((size, behind)) = SIZES.get(k - BY_HAND.len()) {
         return sized_input(*size, behind);
     }
-    match chance.below(12) {
+    match chance.below(13) {
         0 => long_input(chance),
         10 => limit_input(chance),
         11 => large_input(chance),
+        12 => row_input(chance),
         1 => {
             let good = good_input(chance);
             damaged(chance, good)

@@ -1,4 +1,5 @@
-//! Small games, and plays on them one by one, against ways with any memory: what a way does may depend on all of the play.
+//! Small games, and plays on them one by one, against ways with any memory: what a way does may depend on all of the
+//! play.
 #![allow(dead_code)]
 
 use solver::chance::Chance;
@@ -100,8 +101,8 @@ impl<'a> Play<'a> {
             .any(|x| (0..game.outputs()).all(|y| self.after((x, y), &mut |play| play.is_beaten(bad, depth - 1))))
     }
 
-    /// Whether the outside has a way by which every play, beginning as this one, has the condition within `k` more steps,
-    /// and up to and with this step enters no goal and no state of the station.
+    /// Whether the outside has a way by which every play, beginning as this one, has the condition within `k` more
+    /// steps, and up to and with this step enters no goal and no state of the station.
     pub fn forces_condition(&mut self, wins: &[bool], k: usize) -> bool {
         if self.is_done() || self.entered().iter().any(|&t| wins[t]) {
             return false;
@@ -114,8 +115,8 @@ impl<'a> Play<'a> {
             .any(|x| (0..game.outputs()).all(|y| self.after((x, y), &mut |play| play.forces_condition(wins, k - 1))))
     }
 
-    /// Whether the outside has a way by which every play, beginning as this one and of at most `depth` more steps, enters
-    /// no goal and lacks the condition at most at `k` steps.
+    /// Whether the outside has a way by which every play, beginning as this one and of at most `depth` more steps,
+    /// enters no goal and lacks the condition at most at `k` steps.
     pub fn holds_to(&mut self, k: usize, depth: usize) -> bool {
         if self.is_done() || self.condition().iter().filter(|&&held| !held).count() > k {
             return false;
@@ -141,8 +142,8 @@ fn breaks(condition: &[bool], k: usize, m: usize) -> bool {
     opening || condition.windows(m + 1).any(|row| !row[0] && row[1..].iter().all(|&held| held))
 }
 
-/// The round number of a start: the least k up to n with which some way is not beaten. What the outside can force at all it
-/// can in n * k steps: a longer play comes to a state with a count that it has had.
+/// The round number of a start: the least k up to n with which some way is not beaten. What the outside can force at
+/// all it can in n * k steps: a longer play comes to a state with a count that it has had.
 pub fn round_by_plays(game: &Game, start: usize) -> Option<usize> {
     let beaten = |k: usize| Play::new(game, start).is_beaten(&|steps| has(game.mode, steps, k), game.n * k);
     (1..=game.n).find(|&k| !beaten(k))

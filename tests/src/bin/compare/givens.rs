@@ -136,7 +136,8 @@ pub fn outsides(chance: &mut Chance, tally: &mut Tally) -> Result<(), String> {
     Case::on(chance, (i, o), Given { n, moves, marks, start, mask }).run(chance, tally)
 }
 
-/// Automata on which round numbers are large and differ from state to state; mostly small ones, of which most states are tried.
+/// Automata on which round numbers are large and differ from state to state; mostly small ones, of which most states
+/// are tried.
 pub fn rounds(chance: &mut Chance, tally: &mut Tally) -> Result<(), String> {
     let most = chance.pick(&[4, 6, 8, 8, 12, 20, 128]);
     let n = chance.between(1, most);

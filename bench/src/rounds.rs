@@ -5,7 +5,7 @@ use crate::cells;
 use crate::compare::check_given;
 use crate::table::{short, Table};
 use crate::timed::time_given;
-use crate::ways::{chain, climbing, crowded, resting, ring, turned, Start};
+use crate::ways::{above, chain, climbing, crowded, resting, ring, turned, Start};
 use solver::calls::Given;
 use solver::Mode;
 
@@ -22,6 +22,7 @@ fn automata(size: (usize, usize)) -> Vec<(&'static str, &'static str, Given)> {
         automata.push(("resting", name, resting(STATES, size, start)));
         automata.push(("climbing", name, climbing(STATES, size, start)));
     }
+    automata.push(("above", "beside", above(STATES, size)));
     for (name, line, r) in [("of 16, near", 16, 4), ("of 16, middle", 16, 8), ("of 64, near", 64, 16)] {
         automata.push(("crowded", name, crowded(STATES, size, line, r)));
     }

@@ -1,6 +1,6 @@
-//! Given automata that ask much of a search for the round number in the stable mode (crates/game/src/needs.rt: limits are
-//! tried, and for each the needs of the states are lifted one by one until they stand). Only input 0 has the condition;
-//! positions stand on a way to the last one, the goal, and their numbers go up or down along it.
+//! Given automata that ask much of a search for the round number in the stable mode (crates/game/src/needs.rt: limits
+//! are tried, and for each the needs of the states are lifted one by one until they stand). Only input 0 has the
+//! condition; positions stand on a way to the last one, the goal, and their numbers go up or down along it.
 //!
 //! chain     a step with the condition goes one position on: every need is one more than the next
 //! ring      the same without an end: the start, the only goal, is entered again by the n-th step
@@ -8,12 +8,15 @@
 //!           the one before it, and the first on the chain's head. They are dropped one after the other
 //! climbing  the same, but between two that rest stands one that loops under the condition, or goes to the one before it
 //!           or to the chain's head. Once the one before it is dropped its need climbs, one at a time, to the head's
+//! above     a chain of all states but the start and the goal, on which the last output alone goes one position on and the
+//!           others lead to its head; without the condition the goal is entered. All needs but two are above the number, 1
 //! crowded   a line on which the last output alone goes one position on; behind its end all states hang on the end, and
 //!           every other output leads into that crowd. The start is near the goal, so that the number is small
 //!
-//! The start is a state beside the way that enters the goal at once, the chain's head, its middle, or the last that rests.
-//! In the first case the number is 1 and all else is of no use; at the head the start fails a limit early; in the middle
-//! it keeps a need with many limits with which the rest has to be worked out; the last is dropped last of all.
+//! The start is a state beside the way that enters the goal at once, the chain's head, its middle, or the last that
+//! rests. In the first case the number is 1 and all else is of no use; at the head the start fails a limit early; in
+//! the middle it keeps a need with many limits with which the rest has to be worked out; the last is dropped last of
+//! all.
 
 use solver::calls::Given;
 
@@ -56,6 +59,16 @@ pub fn chain(n: usize, size: (usize, usize)) -> Given {
 /// A ring.
 pub fn ring(n: usize, size: (usize, usize)) -> Given {
     given(n, size, 0, 0, |s, x, _| if x == 0 { (s + 1) % n } else { s })
+}
+
+/// A chain of needs above the number.
+pub fn above(n: usize, (i, o): (usize, usize)) -> Given {
+    let (goal, last) = (n - 1, (1 << o) - 1);
+    given(n, (i, o), n - 2, goal, |s, x, y| match s {
+        s if s + 3 > n || x != 0 || s + 3 == n && y == last => goal,
+        s if y == last => s + 1,
+        _ => 0,
+    })
 }
 
 /// A line of so many states with a crowd behind it; the start is the one with the number r.

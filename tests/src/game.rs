@@ -24,15 +24,6 @@ pub struct Game {
     pub mode: Mode,
 }
 
-/// The states that a stage adds, with the two sets their moves are chosen by: `wide` for steps
-/// that may go anywhere in it, `narrow` for steps that have to come nearer.
-#[derive(Clone, Copy, Debug)]
-pub struct Layer {
-    pub fresh: States,
-    pub wide: States,
-    pub narrow: States,
-}
-
 /// The game with its successors gathered: a set for each state and input.
 pub struct Board<'a> {
     pub game: &'a Game,
@@ -112,7 +103,7 @@ impl Board<'_> {
 
     /// Where the outside has an input after which every output leads, without entering a goal,
     /// into `narrow`, or under the condition into `wide` or `narrow`.
-    fn outside_step(&self, wide: States, narrow: States) -> States {
+    pub fn outside_step(&self, wide: States, narrow: States) -> States {
         self.states(|s| {
             (0..self.game.inputs()).any(|x| {
                 let under = if self.game.condition(x) { wide | narrow } else { narrow };
@@ -123,7 +114,7 @@ impl Board<'_> {
 }
 
 /// The stages of a least fixpoint from the empty set, ending with the fixpoint.
-fn least(step: impl Fn(States) -> States) -> Vec<States> {
+pub fn least(step: impl Fn(States) -> States) -> Vec<States> {
     let mut stages = vec![0];
     loop {
         let last = stages[stages.len() - 1];
@@ -136,7 +127,7 @@ fn least(step: impl Fn(States) -> States) -> Vec<States> {
 }
 
 /// The greatest fixpoint below a set.
-fn greatest(top: States, step: impl Fn(States) -> States) -> States {
+pub fn greatest(top: States, step: impl Fn(States) -> States) -> States {
     let mut set = top;
     loop {
         let next = step(set);
@@ -152,52 +143,28 @@ fn last(stages: &[States]) -> States {
     stages[stages.len() - 1]
 }
 
-/// Layers out of stages: what each stage adds, with the wide set given by its two neighbours.
-fn layers(stages: &[States], wide: impl Fn(States) -> States) -> Vec<Layer> {
-    let pairs = stages.windows(2);
-    pairs.map(|p| Layer { fresh: p[1] & !p[0], wide: wide(p[1]), narrow: p[0] }).collect()
-}
-
-/// The station's winning states, in layers.
-pub fn station_layers(board: &Board) -> Vec<Layer> {
+/// The states that the station wins.
+pub fn station_wins(board: &Board) -> States {
     let all = board.all();
     match board.game.mode {
-        Mode::Fair => {
-            let stages = least(|z| greatest(all, |w| board.station_step(w, z)));
-            layers(&stages, |stage| stage)
-        }
-        Mode::Stable => {
-            let z = greatest(all, |z| last(&least(|w| board.station_step(z, w))));
-            layers(&least(|w| board.station_step(z, w)), |_| z)
-        }
+        Mode::Fair => last(&least(|z| greatest(all, |w| board.station_step(w, z)))),
+        Mode::Stable => greatest(all, |z| last(&least(|w| board.station_step(z, w)))),
     }
 }
 
-/// The outside's winning states, in layers.
-pub fn outside_layers(board: &Board) -> Vec<Layer> {
+/// The states that the outside wins.
+pub fn outside_wins(board: &Board) -> States {
     let all = board.all();
     match board.game.mode {
-        Mode::Fair => {
-            let z = greatest(all, |z| last(&least(|w| board.outside_step(z, w))));
-            layers(&least(|w| board.outside_step(z, w)), |_| z)
-        }
-        Mode::Stable => {
-            let stages = least(|z| greatest(all, |w| board.outside_step(w, z)));
-            layers(&stages, |stage| stage)
-        }
+        Mode::Fair => greatest(all, |z| last(&least(|w| board.outside_step(z, w)))),
+        Mode::Stable => last(&least(|z| greatest(all, |w| board.outside_step(w, z)))),
     }
-}
-
-/// All states of some layers.
-pub fn won(layers: &[Layer]) -> States {
-    layers.iter().fold(0, |set, layer| set | layer.fresh)
 }
 
 /// For each state, whether the station wins from it. The two fixpoints must part the states.
 pub fn winners(game: &Game) -> Vec<bool> {
     let board = Board::new(game);
-    let station = won(&station_layers(&board));
-    let outside = won(&outside_layers(&board));
+    let (station, outside) = (station_wins(&board), outside_wins(&board));
     assert_eq!(station ^ outside, board.all(), "the two fixpoints do not part the states");
     assert_eq!(station & outside, 0, "a state is won twice");
     (0..game.n).map(|s| station >> s & 1 == 1).collect()

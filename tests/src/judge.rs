@@ -1,6 +1,7 @@
-//! Judges tables, whoever made them, by the graph of plays that follow them. A table says
-//! by its own bytes which states it wins: the winner's bytes are in range and the loser's are 255.
-//! Each such claim is then checked exactly, from every state:
+//! Judges tables, whoever made them, by the graph of plays that follow them: a second look, which uses no number of a
+//! state. Every byte is determined (tables.rs); this only finds out whether a table holds good, as others would too. A
+//! table says by its own bytes which states it wins: the winner's bytes are in range and the loser's are 255. Each such
+//! claim is then checked exactly, from every state:
 //!
 //! station  no play that has not entered a goal comes to a byte that is no output; in fair mode it
 //!          has fewer than n steps with the condition, in stable mode fewer than n of them in a row;
@@ -10,12 +11,11 @@
 //!
 //! Every claimed state is a start, so the graph over all claimed states has exactly these plays; and the part
 //! of it that paths from the start go through has, as its longest, the longest of these paths. That no table
-//! does with a smaller round number is not judged here: round.rs finds the number.
+//! does with a smaller round number is not judged here: numbers.rs finds the number.
 
 use crate::game::Game;
 use crate::longest::{edges_from, most_in_a_row, most_marked, Edge};
 use crate::Mode;
-use crate::STATES;
 
 /// Who a table says wins a state.
 fn claim(game: &Game, station: &[u8], outside: &[u8], s: usize) -> Result<bool, String> {
@@ -114,27 +114,4 @@ pub fn judge(game: &Game, start: usize, round: usize, station: &[u8], outside: &
     below(mine, game.n, "station table, steps with the condition and no goal")?;
     below(theirs, game.n, "outside table, steps without the condition")?;
     Ok(wins)
-}
-
-/// Judges whole table buffers: the rows, the rest of 128 states' share, and the bytes beyond,
-/// which must be as they were before the call.
-pub fn judge_buffers(
-    game: &Game,
-    (start, round): (usize, usize),
-    station: (&[u8], &[u8]),
-    outside: (&[u8], &[u8]),
-) -> Result<Vec<bool>, String> {
-    let wins = judge(game, start, round, station.0, outside.0)?;
-    frame("station", station.0, station.1, game.n * game.inputs(), STATES * game.inputs(), 255)?;
-    frame("outside", outside.0, outside.1, game.n, STATES, 255)?;
-    Ok(wins)
-}
-
-/// Checks a buffer from `used` on: `filler` up to `share`, and beyond it what was there before.
-pub fn frame(name: &str, now: &[u8], before: &[u8], used: usize, share: usize, filler: u8) -> Result<(), String> {
-    let wanted = |k: usize| if k < share { filler } else { before[k] };
-    match (used..now.len()).find(|&k| now[k] != wanted(k)) {
-        None => Ok(()),
-        Some(k) => Err(format!("{name}: byte {k} is {} and not {}", now[k], wanted(k))),
-    }
 }

@@ -8,8 +8,8 @@
 //! meaning    LTLf by positions of a list
 //! automaton  vectors, states, breadth-first discovery
 //! game       both games by nested fixpoints over sets of states
-//! round      the round number by a game on pairs of a state and a count
-//! tables     tables out of the stages of the fixpoints
+//! numbers    the numbers of the states by games on pairs of a state and a budget
+//! tables     both tables by their rules over these numbers
 //! longest    longest counts on paths of a graph, cycles included
 //! judge      exact judgement of tables, whoever made them
 //! calls      the calls with their refusals and buffers
@@ -31,9 +31,9 @@ pub mod listing;
 pub mod longest;
 pub mod makers;
 pub mod meaning;
+pub mod numbers;
 pub mod prototypes;
 pub mod reader;
-pub mod round;
 pub mod signatures;
 pub mod tables;
 pub mod tree;

@@ -1,5 +1,5 @@
 //! The program `airtable` as a function from the bytes of its standard input to the bytes
-//! of its standard output, and the taking apart of such a listing for the judge.
+//! of its standard output.
 
 use crate::calls::{solve_rule, Buffers, Refusal, Verdict};
 use crate::Mode;
@@ -74,7 +74,7 @@ fn state_line(i: usize, buffers: &Buffers, s: usize) -> String {
 }
 
 /// The first line of a listing.
-pub fn head(verdict: Verdict) -> String {
+fn head(verdict: Verdict) -> String {
     format!("{} {} {}\n", if verdict.can { "can" } else { "cannot" }, verdict.n, verdict.round)
 }
 
@@ -92,42 +92,4 @@ pub fn airtable(bytes: &[u8]) -> Vec<u8> {
             text.into_bytes()
         }
     }
-}
-
-/// A table byte as the program prints it: base ten, no sign, no zero in front.
-fn byte(field: &str) -> Option<u8> {
-    let value: u8 = field.parse().ok()?;
-    (value.to_string() == field).then_some(value)
-}
-
-/// Takes a listing apart into tables: the head must be `head`, and each state's number and mark
-/// as given. The other side's bytes are set to 255.
-pub fn tables_of(text: &[u8], head: &str, i: usize, goals: &[bool]) -> Result<(Vec<u8>, Vec<u8>), String> {
-    let text = std::str::from_utf8(text).map_err(|_| "no ASCII".to_string())?;
-    let body = text.strip_prefix(head).ok_or(format!("the first line is not {head:?}"))?;
-    let lines: Vec<&str> = body.split_inclusive('\n').collect();
-    if lines.len() != goals.len() {
-        return Err(format!("{} state lines and not {}", lines.len(), goals.len()));
-    }
-    let (mut station, mut outside) = (vec![], vec![]);
-    for (s, line) in lines.iter().enumerate() {
-        let (winner, row) = row_of(line, s, goals[s]).ok_or(format!("bad line {line:?}"))?;
-        let blank = vec![255; 1 << i];
-        match (winner, row.len()) {
-            ("S", len) if len == 1 << i => (station.extend(row), outside.push(255)),
-            ("O", 1) => (station.extend(blank), outside.push(row[0])),
-            _ => return Err(format!("bad row in line {line:?}")),
-        };
-    }
-    Ok((station, outside))
-}
-
-/// One state's line taken apart: the winner's letter and the row.
-fn row_of(line: &str, s: usize, goal: bool) -> Option<(&str, Vec<u8>)> {
-    let mut fields = line.strip_suffix('\n')?.split(' ');
-    let number = fields.next()? == s.to_string();
-    let mark = fields.next()? == if goal { "*" } else { "-" };
-    let winner = fields.next()?;
-    let row: Option<Vec<u8>> = fields.map(byte).collect();
-    (number && mark).then_some((winner, row?))
 }

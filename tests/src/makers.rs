@@ -306,10 +306,10 @@ fn route(chance: &mut Chance, (kind, last): (usize, usize), k: usize, y: usize, 
     }
 }
 
-/// Moves, marks and a mask on which round numbers are large, and in the stable mode those of the states differ much. The
-/// states stand on a way to the last one, a goal, in the order of their numbers or against it; or on a ring, whose first
-/// one is the goal. A step with the condition goes one state on, or where the station likes, or to the last one; a step
-/// without it waits, falls back or goes anywhere.
+/// Moves, marks and a mask on which round numbers are large, and in the stable mode those of the states differ much.
+/// The states stand on a way to the last one, a goal, in the order of their numbers or against it; or on a ring, whose
+/// first one is the goal. A step with the condition goes one state on, or where the station likes, or to the last one;
+/// a step without it waits, falls back or goes anywhere.
 pub fn round_shape(chance: &mut Chance, i: usize, o: usize, n: usize) -> (Vec<u8>, Vec<u8>, u16) {
     let (inputs, outputs, last) = (1usize << i, 1usize << o, n - 1);
     let all = ((1u32 << inputs) - 1) as u16;
@@ -333,6 +333,44 @@ pub fn round_shape(chance: &mut Chance, i: usize, o: usize, n: usize) -> (Vec<u8
     if chance.one_in(8) {
         marks[chance.below(n)] = 3;
     }
+    (moves, marks, mask)
+}
+
+/// Where a move of `outside_shape` leads from position k of the way, by the kind of the state there and of its input.
+fn detour(chance: &mut Chance, (kind, last): (usize, usize), k: usize, x: usize, condition: bool) -> usize {
+    match (kind, condition) {
+        _ if k == last && condition => last,
+        _ if k == 0 => 0,
+        (0, true) => 0,
+        (1, true) => k,
+        (_, true) => chance.between(0, k),
+        (_, false) if x % 2 == kind % 2 => chance.between(k, (k + 1).min(last)),
+        _ => (k + 1).min(last),
+    }
+}
+
+/// Moves, marks and a mask on which it takes the outside many steps to the condition when fair, and many steps without
+/// it when stable. The states stand on a way from a goal to the last one, in the order of their numbers or against it;
+/// the last stays where it is under the condition. From the others a step with the condition enters the goal, or stays,
+/// or goes back; a step without it goes one state on, or stays where the station likes.
+pub fn outside_shape(chance: &mut Chance, i: usize, o: usize, n: usize) -> (Vec<u8>, Vec<u8>, u16) {
+    let (inputs, outputs, last) = (1usize << i, 1usize << o, n - 1);
+    let mask = (chance.draw() as u16 & ((1u32 << inputs) - 1) as u16).max(1);
+    let turned = chance.one_in(2);
+    let place = |k: usize| if turned { last - k } else { k };
+    let steps = chance.pick(&[1, 2, 4, 4]);
+    let kinds: Vec<usize> = (0..n).map(|_| if chance.below(4) < steps { 0 } else { chance.below(4) }).collect();
+    let wild = chance.pick(&[1000, 200, 30, 8]);
+    let mut moves = vec![];
+    for k in (0..n).map(place) {
+        for letter in 0..inputs * outputs {
+            let x = letter % inputs;
+            let on = detour(chance, (kinds[k], last), k, x, mask >> x & 1 == 1);
+            moves.push(place(if chance.one_in(wild) { chance.below(n) } else { on }) as u8);
+        }
+    }
+    let mut marks = vec![0; n];
+    marks[place(0)] = 1;
     (moves, marks, mask)
 }
 
@@ -373,5 +411,42 @@ pub fn rich_rule(chance: &mut Chance, i: usize, o: usize) -> Vec<u8> {
     let (left, right) = (side(chance, few), side(chance, many));
     let middle = chance.pick(&['U', 'U', 'R']);
     let text = if few == 0 { format!("F({right})") } else { format!("({left}){middle}({right})") };
+    text.into_bytes()
+}
+
+/// Steps that need the condition's name, `a`, so many times in a row at the most, with as many operators: a step
+/// without it begins the row again, or leads to the end of the row.
+fn in_a_row(chance: &mut Chance, i: usize, o: usize, length: usize) -> String {
+    if chance.one_in(2) {
+        return (0..length).fold("1".to_string(), |row, _| format!("(!a|X{row})"));
+    }
+    let row = (1..length).fold("a".to_string(), |row, _| format!("(a&X{row})"));
+    match chance.below(6) {
+        0 => format!("({}|F{row})", literal(chance, i, o)),
+        1 => format!("({}U{row})", literal(chance, i, o)),
+        2 => format!("X{row}"),
+        _ => format!("F{row}"),
+    }
+}
+
+/// A rule in which the station chooses, at the first step or later, between rows of different lengths, so that in the
+/// stable mode with the condition `a` the states' needs differ; sometimes it can do without them at the first step. i
+/// and o are at least 1.
+pub fn row_rule(chance: &mut Chance, i: usize, o: usize) -> Vec<u8> {
+    let wait = chance.below(4);
+    let mut left = 5 - wait.min(1);
+    let mut choices = vec![];
+    while left > 0 && choices.len() < 3 {
+        let length = chance.between(1, left.min(4));
+        left -= length;
+        choices.push(format!("{}&{}", literal(chance, 0, o), in_a_row(chance, i, o, length)));
+    }
+    let choice = choices.join("|");
+    let text = match wait {
+        0 => choice,
+        1 => format!("X({choice})"),
+        2 => format!("{}U({choice})", literal(chance, i, o)),
+        _ => format!("{}|X({choice})", literal(chance, 0, o)),
+    };
     text.into_bytes()
 }

@@ -1,12 +1,7 @@
-//! Tables for both sides, chosen by the stages of the fixpoints. Which byte is chosen
-//! among those that serve is free; `pick` says which, so that tests can try several.
-//!
-//! From the start the station's table keeps the round number. When fair the stages do that for every state: the
-//! number of a stage is the number of steps with the condition that it takes at most. When stable the states that
-//! are safe in the game for the round number (round.rs) are chosen for by their pairs, and the others by the stages.
+//! Both tables, each byte by its rule (specification, "Tables") over the numbers of the states.
 
-use crate::game::{outside_layers, station_layers, won, Board, Game, Layer, States};
-use crate::round::round;
+use crate::game::{winners, Board, Game};
+use crate::numbers::{distances, needs, numbers, rounds, start_needs, Numbers};
 use crate::Mode;
 
 /// The two tables of a game, n states' share each; 255 where the other side wins. And the round number of the start,
@@ -18,77 +13,98 @@ pub struct Tables {
     pub round: usize,
 }
 
-/// Chooses one of the serving bytes.
-pub type Pick<'a> = &'a mut dyn FnMut(&[u8]) -> u8;
-
-/// Whether a state is in a set.
-fn is_in(set: u128, s: usize) -> bool {
-    set >> s & 1 == 1
-}
-
-/// The outputs that serve in a state of a layer, for one input.
-fn outputs(game: &Game, layer: &Layer, s: usize, x: usize) -> Vec<u8> {
+/// The lowest output that enters a goal, or a state whose number is smaller than `own` (with the condition) or at most
+/// `most` (without it).
+fn output(game: &Game, numbers: &Numbers, (own, most): (usize, usize), s: usize, x: usize) -> u8 {
+    let fits = |number: usize| if game.condition(x) { number < own } else { number <= most };
     let serves = |y: &usize| {
         let t = game.step(s, x, *y);
-        game.goals[t] || (is_in(layer.wide, t) && (!game.condition(x) || is_in(layer.narrow, t)))
+        game.goals[t] || numbers[t].is_some_and(fits)
     };
-    (0..game.outputs()).filter(serves).map(|y| y as u8).collect()
+    (0..game.outputs()).find(serves).expect("a state with a number has an output") as u8
 }
 
-/// The inputs that serve the outside in a state of a layer.
-fn inputs(game: &Game, layer: &Layer, s: usize) -> Vec<u8> {
+/// The lowest input after which every output enters no goal and a state that passes a test.
+fn input(game: &Game, s: usize, test: impl Fn(usize, usize) -> bool) -> u8 {
     let serves = |x: &usize| {
         (0..game.outputs()).all(|y| {
             let t = game.step(s, *x, y);
-            !game.goals[t] && (is_in(layer.narrow, t) || (game.condition(*x) && is_in(layer.wide, t)))
+            !game.goals[t] && test(*x, t)
         })
     };
-    (0..game.inputs()).filter(serves).map(|x| x as u8).collect()
+    (0..game.inputs()).find(serves).expect("a state with a number has an input") as u8
 }
 
-/// The states with count 0 in the stable game for the round number, in layers: a state is in that of the largest count
-/// with which it is safe, so that after a step with the condition the count is larger.
-fn near_layers(safe: &[States]) -> Vec<Layer> {
-    let after = |count: usize| safe.get(count + 1).copied().unwrap_or(0);
-    (0..safe.len()).map(|c| Layer { fresh: safe[c] & !after(c), wide: safe[0], narrow: after(c) }).collect()
+/// The station's table out of a row for each state that it wins.
+fn station_table(game: &Game, row: impl Fn(usize) -> Option<Vec<u8>>) -> Vec<u8> {
+    (0..game.n).flat_map(|s| row(s).unwrap_or(vec![255; game.inputs()])).collect()
 }
 
-/// The layers by which the station's table is chosen, and the round number.
-fn keeping_layers(board: &Board, start: usize) -> (Vec<Layer>, usize) {
-    let far = station_layers(board);
-    if !is_in(won(&far), start) {
-        return (far, 0);
-    }
-    let (number, safe) = round(board, start);
-    if board.game.mode == Mode::Fair {
-        return (far, number);
-    }
-    let far = far.into_iter().map(|layer| Layer { fresh: layer.fresh & !safe[0], ..layer });
-    (near_layers(&safe).into_iter().chain(far).collect(), number)
+/// The station's row by numbers, for a state that has one; `most` is made out of it.
+fn row(game: &Game, numbers: &Numbers, most: impl Fn(usize) -> usize, s: usize) -> Option<Vec<u8>> {
+    let own = numbers[s]?;
+    Some((0..game.inputs()).map(|x| output(game, numbers, (own, most(own)), s, x)).collect())
 }
 
-/// Builds both tables for a start, choosing among the serving bytes by `pick`.
-pub fn build_with(game: &Game, start: usize, pick: Pick) -> Tables {
-    let board = Board::new(game);
-    let mut station = vec![255; game.n * game.inputs()];
-    let mut outside = vec![255; game.n];
-    let (layers, round) = keeping_layers(&board, start);
-    for layer in layers {
-        for s in (0..game.n).filter(|&s| is_in(layer.fresh, s)) {
-            for x in 0..game.inputs() {
-                station[s * game.inputs() + x] = pick(&outputs(game, &layer, s, x));
-            }
-        }
-    }
-    for layer in outside_layers(&board) {
-        for s in (0..game.n).filter(|&s| is_in(layer.fresh, s)) {
-            outside[s] = pick(&inputs(game, &layer, s));
-        }
-    }
-    Tables { station, outside, round }
+/// The station's table when stable: a state with a need for m by the needs for m, another by those for n.
+pub fn station_by_needs(game: &Game, (m, near): (usize, &Numbers), far: &Numbers) -> Vec<u8> {
+    station_table(game, |s| row(game, near, |_| m, s).or_else(|| row(game, far, |_| game.n, s)))
 }
 
-/// Builds both tables for a start with the first serving byte everywhere.
+/// The outside's table when stable.
+fn outside_by_numbers(game: &Game, numbers: &Numbers) -> Vec<u8> {
+    let byte = |s: usize| match numbers[s] {
+        None => 255,
+        Some(own) => input(game, s, |x, t| {
+            numbers[t].is_some_and(|number| if game.condition(x) { number <= own } else { number < own })
+        }),
+    };
+    (0..game.n).map(byte).collect()
+}
+
+/// The outside's table when fair.
+fn outside_by_distances(game: &Game, distances: &Numbers) -> Vec<u8> {
+    let byte = |s: usize| match distances[s] {
+        None => 255,
+        Some(own) => input(game, s, |x, t| distances[t].is_some_and(|distance| game.condition(x) || distance < own)),
+    };
+    (0..game.n).map(byte).collect()
+}
+
+/// The numbers of a side, which has one for exactly the states that it wins.
+fn held(numbers: Numbers, wins: &[bool], side: bool) -> Numbers {
+    assert!((0..wins.len()).all(|s| numbers[s].is_some() == (wins[s] == side)), "a side has the wrong numbers");
+    numbers
+}
+
+/// Both tables when fair.
+fn fair(board: &Board, wins: &[bool], start: usize) -> Tables {
+    let rounds = held(rounds(board), wins, true);
+    let distances = held(distances(board, wins), wins, false);
+    Tables {
+        station: station_table(board.game, |s| row(board.game, &rounds, |own| own, s)),
+        outside: outside_by_distances(board.game, &distances),
+        round: rounds[start].unwrap_or(0),
+    }
+}
+
+/// Both tables when stable.
+fn stable(board: &Board, wins: &[bool], start: usize) -> Tables {
+    let (game, n) = (board.game, board.game.n);
+    let far = held(needs(board, n), wins, true);
+    let outside = outside_by_numbers(game, &held(numbers(board), wins, false));
+    if !wins[start] {
+        return Tables { station: station_by_needs(game, (n, &far), &far), outside, round: 0 };
+    }
+    let (round, near) = start_needs(board, start);
+    Tables { station: station_by_needs(game, (round, &near), &far), outside, round }
+}
+
+/// Builds both tables for a start. Who wins each state is found first, by each side's own fixpoint.
 pub fn build(game: &Game, start: usize) -> Tables {
-    build_with(game, start, &mut |serving| serving[0])
+    let (board, wins) = (Board::new(game), winners(game));
+    match game.mode {
+        Mode::Fair => fair(&board, &wins, start),
+        Mode::Stable => stable(&board, &wins, start),
+    }
 }

@@ -4,12 +4,12 @@
 use solver::automaton::{build, build_wide};
 use solver::chance::Chance;
 use solver::game::{winners, Game};
-use solver::judge::{frame, judge};
+use solver::judge::judge;
 use solver::longest::{edges_from, most_in_a_row, most_marked, Edge};
 use solver::makers::{game_shape, rule_text};
 use solver::meaning::satisfies;
 use solver::reader::read;
-use solver::tables::{build as tables, build_with};
+use solver::tables::build as tables;
 use solver::wording::Wording;
 use solver::Mode;
 
@@ -31,7 +31,7 @@ fn tables_pass_the_judge() {
     for _ in 0..3_000 {
         let game = random_game(&mut chance, 12);
         let start = chance.below(game.n);
-        let tables = build_with(&game, start, &mut |serving| serving[chance.below(serving.len())]);
+        let tables = tables(&game, start);
         let wins = judge(&game, start, tables.round, &tables.station, &tables.outside).unwrap();
         assert_eq!(wins, winners(&game));
         wins.iter().for_each(|&win| won[win as usize] += 1);
@@ -181,14 +181,6 @@ fn longest_counts() {
     assert_eq!(edges_from(2, &ring, 1), ring);
     let round = [edge(0, 3, false), edge(3, 2, false), edge(2, 1, false), edge(1, 0, true)];
     assert_eq!(most_marked(4, &round), None);
-}
-
-#[test]
-fn bytes_beyond_the_share_are_watched() {
-    let before = [7, 7, 7, 7, 7];
-    assert!(frame("table", &[1, 255, 255, 7, 7], &before, 1, 3, 255).is_ok());
-    assert!(frame("table", &[1, 255, 255, 7, 8], &before, 1, 3, 255).is_err());
-    assert!(frame("table", &[1, 255, 7, 7, 7], &before, 1, 3, 255).is_err());
 }
 
 #[test]

@@ -1,13 +1,10 @@
 //! What all kinds of cases share: lent buffers with canaries, the comparing of refusals,
-//! the choice of signatures and lengths, the tally, and the printing of bytes.
+//! the choice of signatures and lengths, and the printing of bytes.
 
 use crate::capi::Told;
-use solver::calls::{Refusal, Verdict};
+use solver::calls::Refusal;
 use solver::chance::Chance;
-use solver::game::Game;
-use solver::round::is_mixed;
 use solver::Mode;
-use std::collections::BTreeMap;
 
 /// A value no call would hand back by itself.
 pub const SENTINEL: usize = 0x0DEA_DBEE_F0DE_ADBE;
@@ -50,48 +47,6 @@ impl Lent {
         match (0..wanted.len()).find(|&k| wanted[k] != self.bytes[k]) {
             None => Ok(()),
             Some(k) => Err(format!("{name}: byte {k} of {} is {}, wanted {}", self.told, self.bytes[k], wanted[k])),
-        }
-    }
-
-    /// Checks that nothing was written.
-    pub fn untouched(&self, name: &str) -> Result<(), String> {
-        self.check(name, &self.before[..self.told])
-    }
-}
-
-/// Counts of what the cases came to.
-#[derive(Default)]
-pub struct Tally {
-    pub counts: BTreeMap<String, u64>,
-}
-
-impl Tally {
-    /// Counts one case of a kind.
-    pub fn count(&mut self, what: String) {
-        *self.counts.entry(what).or_insert(0) += 1;
-    }
-}
-
-impl Tally {
-    /// Counts a served call, and what its round number is.
-    pub fn count_served(&mut self, call: &str, game: &Game, verdict: Verdict, wins: &[bool]) {
-        let Verdict { can, n, round } = verdict;
-        if !can {
-            return self.count(format!("{call}: cannot"));
-        }
-        let mode = if game.mode == Mode::Fair { "fair" } else { "stable" };
-        let mixed = is_mixed(game, wins, round);
-        self.count(format!("{call}: can"));
-        let kinds = [
-            ("above 1", round > 1),
-            ("above 1 and below n", round > 1 && round < n),
-            ("above 10", round > 10),
-            ("n, above 1", round == n && n > 1),
-            ("for a table by two numbers", mixed),
-            ("above 1 for a table by two numbers", mixed && round > 1),
-        ];
-        for (kind, _) in kinds.iter().filter(|(_, holds)| *holds) {
-            self.count(format!("{call}: can, {mode}, round number {kind}"));
         }
     }
 }

@@ -3,6 +3,7 @@
 use crate::capi::{self, Followed};
 use crate::common::*;
 use crate::givens::Case;
+use crate::tally::Tally;
 use solver::calls::{follow, Lent as Shown, Refusal, Step};
 use solver::chance::Chance;
 

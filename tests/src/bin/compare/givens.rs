@@ -3,10 +3,11 @@
 
 use crate::capi::{self, mode_byte};
 use crate::common::*;
-use solver::calls::{game_of_given, solve_given, Given, Refusal, Verdict};
+use crate::tally::{Served, Tally};
+use solver::calls::{game_of_given, solve_given, Given, Verdict};
 use solver::chance::Chance;
-use solver::judge::judge_buffers;
-use solver::makers::{game_shape, round_shape};
+use solver::judge::judge;
+use solver::makers::{game_shape, outside_shape, round_shape};
 use solver::Mode;
 
 /// One call for a given automaton.
@@ -47,7 +48,7 @@ impl Case {
         }
     }
 
-    /// Compares all that is determined, and has the tables judged.
+    /// Compares all that the call writes, and has the tables judged.
     pub fn compare(&mut self, any: u8, tally: &mut Tally) -> Result<(), String> {
         let (moves, marks) = (self.given.moves.clone(), self.given.marks.clone());
         let told = capi::solve_given(
@@ -68,34 +69,28 @@ impl Case {
         let (mut station, mut outside) = (self.station.old(), self.outside.old());
         let wanted = solve_given(self.i, self.o, self.mode, &self.given, &mut station, &mut outside);
         check_number(&told, wanted.map(|_| ()))?;
+        check_value("round", told.round, wanted.map_or(0, |verdict| verdict.round))?;
+        self.station.check("station", &station)?;
+        self.outside.check("outside", &outside)?;
         match wanted {
-            Err(refusal) => self.refused(told.round, refusal, tally),
+            Err(refusal) => tally.count(format!("given: refused {:2}", refusal.number)),
             Ok(verdict) => {
                 check_answer(told.answer, verdict.can)?;
-                check_value("round", told.round, verdict.round)?;
-                self.judged(verdict, tally)
+                self.judged(verdict, tally)?;
             }
         }
-    }
-
-    /// After a refusal the tables are untouched.
-    fn refused(&self, round: usize, refusal: Refusal, tally: &mut Tally) -> Result<(), String> {
-        tally.count(format!("given: refused {:2}", refusal.number));
-        check_value("round of a refused call", round, 0)?;
-        self.station.untouched("station")?;
-        self.outside.untouched("outside")
+        Ok(())
     }
 
     /// Has the tables judged, and the winners compared with the fixpoints.
     fn judged(&self, verdict: Verdict, tally: &mut Tally) -> Result<(), String> {
-        let game = game_of_given(self.i, self.o, self.mode, &self.given);
-        let station = (&self.station.bytes[..], &self.station.before[..]);
-        let outside = (&self.outside.bytes[..], &self.outside.before[..]);
-        let wins = judge_buffers(&game, (self.given.start, verdict.round), station, outside)?;
-        if wins != solver::game::winners(&game) {
+        let game = &game_of_given(self.i, self.o, self.mode, &self.given);
+        let (station, outside) = (&self.station.bytes[..], &self.outside.bytes[..]);
+        let wins = &judge(game, self.given.start, verdict.round, station, outside)?[..];
+        if wins != solver::game::winners(game) {
             return Err("the winners differ from the fixpoints, though the judge let the tables pass".into());
         }
-        tally.count_served("given", &game, verdict, &wins);
+        tally.count_served("given", &Served { game, verdict, wins, station, outside });
         check_answer(verdict.can as u8, wins[self.given.start])
     }
 
@@ -131,7 +126,18 @@ pub fn large(chance: &mut Chance, tally: &mut Tally) -> Result<(), String> {
     Case::good(chance, i, o, n).run(chance, tally)
 }
 
-/// Automata on which round numbers are large and differ from state to state; mostly small ones, of which most states are tried.
+/// Automata on which distances and numbers of the outside are large; mostly small ones.
+pub fn outsides(chance: &mut Chance, tally: &mut Tally) -> Result<(), String> {
+    let most = chance.pick(&[4, 6, 8, 8, 12, 20, 128]);
+    let n = chance.between(1, most);
+    let (i, o) = if n > 20 { (chance.below(5), chance.below(5)) } else { (chance.below(3), chance.below(3)) };
+    let (moves, marks, mask) = outside_shape(chance, i, o, n);
+    let start = chance.below(n);
+    Case::on(chance, (i, o), Given { n, moves, marks, start, mask }).run(chance, tally)
+}
+
+/// Automata on which round numbers are large and differ from state to state; mostly small ones, of which most states
+/// are tried.
 pub fn rounds(chance: &mut Chance, tally: &mut Tally) -> Result<(), String> {
     let most = chance.pick(&[4, 6, 8, 8, 12, 20, 128]);
     let n = chance.between(1, most);

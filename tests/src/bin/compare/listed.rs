@@ -1,8 +1,9 @@
 //! Cases that are listed and not drawn: all short texts, every byte value in every kind
 //! of place, every length, and all games of two states with one input and one output.
 
-use crate::common::{Lent, Tally};
+use crate::common::Lent;
 use crate::givens::Case;
+use crate::tally::Tally;
 use crate::trials::{list, run};
 use solver::calls::Given;
 use solver::chance::Chance;

@@ -1,5 +1,6 @@
-//! Calls the library (through its C functions) and the solver on many seeded inputs and
-//! compares everything that the specification determines; free table bytes are judged by the judge.
+//! Calls the library (through its C functions) and the solver on many seeded inputs and compares
+//! everything that a call hands back or writes, byte for byte. As a second look, which takes no number of
+//! a state from the solver, tables are judged by the plays that follow them.
 //!
 //!   compare [--seed N] [--times K] [--kind NAME [--case C]]
 //!
@@ -14,11 +15,12 @@ mod listed;
 mod plays;
 mod rules;
 mod sources;
+mod tally;
 mod trials;
 
-use common::Tally;
 use solver::chance::Chance;
 use std::sync::atomic::{AtomicU64, AtomicUsize, Ordering};
+use tally::Tally;
 
 /// A kind of case: its name, how many there are by default, and what one does.
 struct Kind {
@@ -35,7 +37,7 @@ enum Run {
 
 use Run::*;
 
-const KINDS: [Kind; 20] = [
+const KINDS: [Kind; 22] = [
     Kind { name: "readings", count: sources::READINGS_COUNT, run: Listed(sources::reading) },
     Kind { name: "published", count: sources::PUBLISHED_COUNT, run: Listed(sources::published) },
     Kind { name: "trial-short", count: listed::SHORT_TEXTS, run: Listed(listed::short_text) },
@@ -56,6 +58,8 @@ const KINDS: [Kind; 20] = [
     Kind { name: "follow-plays", count: 10_000, run: Random(follows::plays) },
     Kind { name: "follow-random", count: 80_000, run: Random(follows::random) },
     Kind { name: "given-rounds", count: 30_000, run: Random(givens::rounds) },
+    Kind { name: "given-outsides", count: 15_000, run: Random(givens::outsides) },
+    Kind { name: "rule-rows", count: 15_000, run: Random(rules::rows) },
 ];
 
 /// Where the run stands, for the message after a crash inside the library.

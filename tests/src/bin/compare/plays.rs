@@ -4,9 +4,10 @@
 //! come fewer times than the round number as long as no list has satisfied the rule.
 
 use crate::capi;
-use crate::common::{enough, Tally};
+use crate::common::enough;
 use crate::follows::{step, Call};
 use crate::rules::Case;
+use crate::tally::Tally;
 use solver::calls::{Lent as Shown, Verdict};
 use solver::chance::Chance;
 use solver::makers::{good_condition, rich_rule, rule_text};

@@ -3,10 +3,11 @@
 
 use crate::capi::{self, mode_byte, Told};
 use crate::common::*;
+use crate::tally::{Served, Tally};
 use solver::calls::{game_of_given, solve_rule, Buffers, Given, Refusal, Verdict};
 use solver::chance::Chance;
-use solver::judge::judge_buffers;
-use solver::makers::{any_condition, any_text, damaged, good_condition, rich_rule, rule_text, with_blanks};
+use solver::judge::judge;
+use solver::makers::{any_condition, any_text, damaged, good_condition, rich_rule, row_rule, rule_text, with_blanks};
 use solver::reader::read;
 use solver::tree::condition_mask;
 use solver::wording::Wording;
@@ -72,46 +73,41 @@ impl Case {
         (answer, buffers)
     }
 
-    /// Compares all that is determined, and has the tables judged.
+    /// Compares all that the call writes, and has the tables judged.
     pub fn compare(&mut self, any: u8, tally: &mut Tally) -> Result<Option<Verdict>, String> {
         let told = self.call(any);
         let (wanted, buffers) = self.wanted();
         check_number(&told, wanted.map(|_| ()))?;
+        check_value("n", told.n, wanted.map_or(0, |verdict| verdict.n))?;
+        check_value("round", told.round, wanted.map_or(0, |verdict| verdict.round))?;
         self.moves.check("moves", &buffers.moves)?;
         self.marks.check("marks", &buffers.marks)?;
+        self.station.check("station", &buffers.station)?;
+        self.outside.check("outside", &buffers.outside)?;
         match wanted {
-            Err(refusal) => self.refused(told, refusal, tally).map(|()| None),
-            Ok(verdict) => self.served(told, verdict, &buffers, tally).map(|()| Some(verdict)),
+            Err(refusal) => tally.count(format!("rule: refused {:2}", refusal.number)),
+            Ok(verdict) => {
+                check_answer(told.answer, verdict.can)?;
+                self.judged(verdict, tally)?;
+            }
         }
+        Ok(wanted.ok())
     }
 
-    /// After a refusal the tables are untouched.
-    fn refused(&self, told: Told, refusal: Refusal, tally: &mut Tally) -> Result<(), String> {
-        tally.count(format!("rule: refused {:2}", refusal.number));
-        check_value("n of a refused rule", told.n, 0)?;
-        check_value("round of a refused rule", told.round, 0)?;
-        self.station.untouched("station")?;
-        self.outside.untouched("outside")
-    }
-
-    /// After a served call n, the verdict and the round number are compared and the tables judged.
-    fn served(&self, told: Told, verdict: Verdict, buffers: &Buffers, tally: &mut Tally) -> Result<(), String> {
-        check_value("n", told.n, verdict.n)?;
-        check_value("round", told.round, verdict.round)?;
-        check_answer(told.answer, verdict.can)?;
+    /// Has the tables judged, and the winners compared with the fixpoints.
+    fn judged(&self, verdict: Verdict, tally: &mut Tally) -> Result<(), String> {
         let tree = read(&self.condition, Wording::condition(self.i)).unwrap();
         let mask = condition_mask(&tree, self.i);
-        let (moves, marks) = (buffers.moves.clone(), buffers.marks.clone());
+        let (moves, marks) = (self.moves.bytes.clone(), self.marks.bytes.clone());
         let given = Given { n: verdict.n, moves, marks, start: 0, mask };
-        let game = game_of_given(self.i, self.o, self.mode, &given);
-        let station = (&self.station.bytes[..], &self.station.before[..]);
-        let outside = (&self.outside.bytes[..], &self.outside.before[..]);
-        let wins = judge_buffers(&game, (0, verdict.round), station, outside)?;
-        if wins != solver::game::winners(&game) {
+        let game = &game_of_given(self.i, self.o, self.mode, &given);
+        let (station, outside) = (&self.station.bytes[..], &self.outside.bytes[..]);
+        let wins = &judge(game, 0, verdict.round, station, outside)?[..];
+        if wins != solver::game::winners(game) {
             return Err("the winners differ from the fixpoints, though the judge let the tables pass".into());
         }
-        tally.count_served("rule", &game, verdict, &wins);
-        check_answer(told.answer, wins[0])
+        tally.count_served("rule", &Served { game, verdict, wins, station, outside });
+        check_answer(verdict.can as u8, wins[0])
     }
 
     /// The case in a form that can be typed in again.
@@ -236,4 +232,14 @@ pub fn large(chance: &mut Chance, tally: &mut Tally) -> Result<(), String> {
         tally.count(format!("rule: n {}", if verdict.n < 126 { "101 to 125".into() } else { verdict.n.to_string() }));
     }
     Ok(())
+}
+
+/// Rules on which states need the condition more often in a row than the start does.
+pub fn rows(chance: &mut Chance, tally: &mut Tally) -> Result<(), String> {
+    let (i, o) = (chance.between(1, 2), chance.between(1, 2));
+    let rule = row_rule(chance, i, o);
+    let condition = if chance.one_in(4) { good_condition(chance, i) } else { b"a".to_vec() };
+    let mut case = Case::new(chance, (i, o), rule, condition, enough);
+    case.mode = if chance.one_in(8) { Mode::Fair } else { Mode::Stable };
+    case.run(chance, tally)
 }

@@ -3,6 +3,7 @@
 
 use crate::common::*;
 use crate::rules::Case;
+use crate::tally::Tally;
 use crate::trials::run;
 use solver::calls::{try_rule, Verdict};
 use solver::chance::Chance;

@@ -1,7 +1,8 @@
 //! The trial on texts and lists of every kind.
 
 use crate::capi;
-use crate::common::{check_answer, check_number, hex, shown, wild_count, Tally};
+use crate::common::{check_answer, check_number, hex, shown, wild_count};
+use crate::tally::Tally;
 use solver::calls::try_rule;
 use solver::chance::Chance;
 use solver::makers::{any_text, rule_text, with_blanks};

@@ -154,7 +154,7 @@ filled-entries true G start m r near system environment σ τ solved valid some 
 filled-entries false G start m r near system environment σ τ solved valid some by-near by-far inputs wins loses =
     let found = solved .found in
     let d = decided false G system environment σ τ (found .ranking) some wins loses in
-    subst (λ (k : ℕ). StableEntries G k σ τ) (solved .limit)
+    subst (λ (k : ℕ). StableEntries G k σ τ) (solved .limit refl)
     (record {
       need = λ s. getD near s 0;
       needs = need-number G some m near (solved .near-exact refl);

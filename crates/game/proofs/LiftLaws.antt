@@ -18,7 +18,7 @@ use Rattle.game.specs.inner.Serving.{rankedBelow, safeBelow, FirstUnserv
 use Rattle.game.specs.inner.Needs.{Bounds, Shrinks, Stands, raisedNeed, heightOf, Higher, NextNeed, Swept, Enters, Bars}
 use Rattle.reader.proofs.BoolLaws.{on, clash}
 use Rattle.plays.proofs.CaseLaws.{zero-or, same-or, below-or}
-use Rattle.game.proofs.LimitLaws.{ranked-below, below-ranked}
+use Rattle.game.proofs.LimitLaws.{ranked-below, not-lower}
 use Rattle.game.proofs.IndexLaws.{next-below}
 use Rattle.game.proofs.ServingLaws.{served-at, unserved-at}
 
@@ -50,13 +50,9 @@ height-raised l k p small =
 
 -- ---- a look at one state
 
-beq-true : (b : Bool) → Bool·beq b true ≡ b
+pub beq-true : (b : Bool) → Bool·beq b true ≡ b
 beq-true true = refl
 beq-true false = refl
-
--- a rank that is not below the limit is at least the limit
-not-ranked : (limit : ℕ) (r : List ℕ) (t : ℕ) → rankedBelow limit r t ≡ false → 0 < getD r t 0 → limit ≤ getD r t 0
-not-ranked limit r t e p = below-or (getD r t 0) limit (λ l. clash (rankedBelow limit r t) (below-ranked limit r t p l) e) (λ l. l)
 
 -- what the first input that no output serves says of state s: every input has an output into a need below p, or within the limit m, as its condition asks,
 -- or one has none
@@ -83,8 +79,8 @@ module _ {G : Arena} (m : ℕ) (needs : List ℕ) (p : ℕ) {s r : ℕ} (u : Fir
       let w = unserved-at u one y h in (
         w .0,
         λ some. (
-          (λ e. not-ranked p needs t (rw e at (w .1)) some),
-          (λ e. omega (arith, not-ranked (m + 1) needs t (sym (beq-true (rankedBelow (m + 1) needs t)) ∙ rw e at (w .1)) some)),
+          (λ e. not-lower p needs t (rw e at (w .1)) some),
+          (λ e. omega (arith, not-lower (m + 1) needs t (sym (beq-true (rankedBelow (m + 1) needs t)) ∙ rw e at (w .1)) some)),
         ),
       )
 

@@ -7,23 +7,20 @@ use mathlib.Core.Logic.{⊎-elim}
 use Prim.Native.Nat.{ℕ, _+_, _<_, _≤_}
 use native.Mathlib.Omega.{arith}
 use lib.ListN.{getD}
-use borrow.Author.Tests.{eq-eqb, ne-eqb}
+use borrow.Author.Tests.{ne-eqb}
 use Rattle.plays.specs.Arena.{Arena}
 use Rattle.plays.specs.inner.Rank.{Ranked, Ranking}
 use Rattle.plays.specs.inner.Beaten.{Beaten}
 use Rattle.plays.specs.inner.Exact.{ExactNeeds}
 use Rattle.game.specs.Tables.{needLimit}
 use Rattle.game.specs.inner.Rounds.{Found}
-use Rattle.game.specs.inner.Needs.{UnrankedBeaten, Narrowed, Widening, Wide}
+use Rattle.game.specs.inner.Needs.{UnrankedBeaten, Narrowed, Wide}
 use Rattle.game.specs.inner.Solution.{Solves}
 use Rattle.plays.proofs.BeatenLaws.{held-beaten}
 
--- what the needs are taken with, by whether the round number is 0
-pub limit-none : (n r : ℕ) → r ≡ 0 → needLimit n r ≡ n
-limit-none n r e = rw (eq-eqb r 0 e)
-
-pub limit-round : (n r : ℕ) → (r ≡ 0 → ⊥) → needLimit n r ≡ r
-limit-round n r d = rw (ne-eqb r 0 d)
+-- on "can" the needs are taken with the round number
+pub limit-can : (n r : ℕ) → 0 < r → needLimit n r ≡ r
+limit-can n r p = rw (ne-eqb r 0 (λ e. let z : ⊥ = omega arith in z))
 
 -- the states without a rank of the system have one of the environment
 pub unranked-beaten : {G : Arena} {system environment : List ℕ} → Ranking false G system environment → UnrankedBeaten G system
@@ -48,9 +45,8 @@ steady h = record { within = h .within; forced = h .forced }
 
 module _ {fair : Bool} {G : Arena} {start : ℕ} {system environment : List ℕ} (hs : start < G .states) (found : Found fair G system environment) where
   -- fair: the round number is the start's rank
-  pub solves-fair : fair ≡ true → {m : ℕ} → m ≡ needLimit (G .states) (getD system start 0)
-      → Solves fair G start system system environment m (getD system start 0)
-  solves-fair e {m} limit =
+  pub solves-fair : fair ≡ true → (m : ℕ) → Solves fair G start system system environment m (getD system start 0)
+  solves-fair e m =
       record {
         found = found;
         near-ranked =
@@ -59,7 +55,7 @@ module _ {fair : Bool} {G : Arena} {start : ℕ} {system environment : List ℕ}
         near-won = λ t p. p;
         near-fair = λ q. refl;
         near-exact = λ q. absurd (mathlib.Core.Bool.true≢false (sym e ∙ q));
-        limit = limit;
+        limit = λ q. absurd (mathlib.Core.Bool.true≢false (sym e ∙ q));
         can = λ p. (p, omega arith);
         cannot = environment-ranked (found .ranking) start hs;
         beaten = λ k h. subst (λ (f : Bool). Beaten f G k start k) (sym e) (found .rounds e start k k hs h);
@@ -74,7 +70,7 @@ module _ {fair : Bool} {G : Arena} {start : ℕ} {system environment : List ℕ}
         near-won = λ t q. q;
         near-fair = λ q. refl;
         near-exact = found .needs;
-        limit = refl;
+        limit = λ _. refl;
         can = λ q. absurd (let o : ⊥ = omega arith in o);
         cannot = λ q. omega arith;
         beaten = λ k h. absurd (let o : ⊥ = omega arith in o);
@@ -91,20 +87,7 @@ module _ {fair : Bool} {G : Arena} {start : ℕ} {system environment : List ℕ}
     asks-narrow p = (system-ranked (found .ranking) start hs p, found .needs e, found .ranking .system-bound, lost)
 
     module _ {low : List ℕ} {m : ℕ} (n : Narrowed G start system low m) where
-      -- what `widened` asks for
-      pub asks-widened : Widening G m system low (m + 1) × UnrankedBeaten G system
-      asks-widened = (
-        record {
-          above = omega arith;
-          ranked = n .ranked;
-          won = n .won;
-          below = λ t. omega (arith, n .low t);
-          beaten = λ s k h b q. n .bounds .beaten s k h (omega arith) q;
-        },
-        lost,
-      )
-
-      -- and what its answer is for
+      -- what the answer of `widened` is for
       pub solves-stable : {near : List ℕ} → Wide G m system low near → Solves fair G start near system environment m m
       solves-stable {near} w =
           let p = n .positive in
@@ -115,7 +98,7 @@ module _ {fair : Bool} {G : Arena} {start : ℕ} {system environment : List ℕ}
             near-won = w .won;
             near-fair = λ q. absurd (mathlib.Core.Bool.true≢false (sym q ∙ e));
             near-exact = λ q. w .exact;
-            limit = sym (limit-round (G .states) m (λ z. let o : ⊥ = omega arith in o));
+            limit = λ _. sym (limit-can (G .states) m p);
             can = λ q. (omega (arith, n .here), omega (arith, n .low start));
             cannot = λ q. absurd (let o : ⊥ = omega arith in o);
             beaten = λ k h. subst (λ (f : Bool). Beaten f G k start k) (sym e) (n .beaten k h);

@@ -21,6 +21,7 @@ use Rattle.game.specs.inner.Game.{Valid}
 use Rattle.game.specs.inner.Bytes.{MixedByte, SystemFilled, EnvironmentFilled}
 use Rattle.game.specs.inner.Solution.{Solves}
 use Rattle.game.proofs.IndexLaws.{row-below}
+use Rattle.game.proofs.SolutionLaws.{limit-can}
 use Rattle.game.proofs.EntryFilled.{filled-entries}
 use Rattle.plays.proofs.CaseLaws.{zero-or}
 use Rattle.plays.proofs.RankLaws.{system-wins, environment-wins}
@@ -39,10 +40,6 @@ row-mod P s x h = mul-add-mod-self-right s P x ∙ mod-eq-of-lt h
 -- only states have a rank
 no-rank-beyond : {G : Arena} {player steady : Bool} {most : ℕ} (r : List ℕ) → Ranked G player steady most r → (s : ℕ) → G .states ≤ s → getD r s 0 ≡ 0
 no-rank-beyond r rk s h = zero-or (getD r s 0) (λ e. e) (λ p. let l = rk .within s p in omega arith)
-
--- on "can" the needs are taken with the round number
-limit-can : (n r : ℕ) → 0 < r → needLimit n r ≡ r
-limit-can n r p = rw (ne-eqb r 0 (λ e. omega arith))
 
 -- a table that goes by the near ranks on a state that has one, else by the far ones, wins wherever there is a far one; when fair they are the same
 two-ranks-win : (fair : Bool) (G : Arena) (m : ℕ) (σ near far : List ℕ) → Ranked G true fair m near → Ranked G true fair (G .states) far
@@ -121,7 +118,7 @@ module _ {fair : Bool} {G : Arena} {start m r : ℕ} {near system environment σ
   start-wins p =
       let c = solved .can p in
       system-wins fair G σ m near (λ s w x h. near-lowest s w x h .has) r start
-      (c .1, (λ _. omega (arith, solved .limit, limit-can (G .states) r p))) (c .0)
+      (c .1, (λ e. omega (arith, solved .limit e, limit-can (G .states) r p))) (c .0)
 
   start-round : 0 < G .outputs → RoundNumber (modeOf fair) G (Reaching G start) r
   start-round some =

@@ -13,10 +13,9 @@ ghost use Prim.Native.Nat.{_<_};
 ghost use Rattle.game.specs.inner.Game.{arenaOf, Valid};
 ghost use Rattle.game.specs.inner.Rounds.{Found};
 ghost use Rattle.game.specs.inner.Solution.{Solves};
-ghost use Rattle.game.specs.Tables.{needLimit};
 
-// What the solver finds: the ranks of both players, the ranks by which the system's table goes first with their limit, and the round number, 0 where the system
-// cannot.
+// What the solver finds: the ranks of both players, the ranks by which the system's table goes first with their limit, which is read when stable alone, and the
+// round number, 0 where the system cannot.
 pub struct Solution {
     pub near: [Rank; STATE_LIMIT],
     pub system: [Rank; STATE_LIMIT],
@@ -43,12 +42,13 @@ fn numbered_stable(
 {
     let system = ranks.system;
     let environment = ranks.environment;
+    let n = g.states as Rank;
     if environment[start] != 0 {
         return Solution {
             near: system,
             system: system,
             environment: environment,
-            limit: g.states as Rank,
+            limit: n,
             round: 0,
         };
     }
@@ -63,16 +63,6 @@ fn numbered_stable(
         limit: limit,
         round: limit,
     }
-}
-
-// What the needs are taken with, on n states: the round number of the start, and n where it is 0.
-fn needs_limit(n: Rank, round: Rank) -> Rank
-    ensures { λ r. ⌜ r ≡ needLimit n round ⌝ }
-{
-    if round == 0 {
-        return n;
-    }
-    round
 }
 
 // The round number of the start, and the ranks by which the system's table keeps it. When fair both are the system's ranks.
@@ -98,7 +88,7 @@ fn numbered(
             near: system,
             system: system,
             environment: environment,
-            limit: needs_limit(g.states as Rank, round),
+            limit: round,
             round: round,
         };
     }

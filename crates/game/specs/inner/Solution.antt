@@ -20,7 +20,7 @@ pub record Solves (fair : Bool) (G : Arena) (start : State) (near system environ
   pub near-won : (t : ℕ) → 0 < getD near t 0 → 0 < getD system t 0
   pub near-fair : fair ≡ true → near ≡ system
   pub near-exact : fair ≡ false → ExactNeeds G m near
-  pub limit : m ≡ needLimit (G .states) r
+  pub limit : fair ≡ false → m ≡ needLimit (G .states) r
   pub can : 0 < r → (0 < getD near start 0) × (getD near start 0 ≤ r)
   pub cannot : r ≡ 0 → 0 < getD environment start 0
   pub beaten : (k : ℕ) → k < r → Beaten fair G k start k

@@ -11,11 +11,9 @@ numbered-spec =
     (tie.spec
     (λ c. search needs)
     (λ c. search needs)
-    (λ c. search needs)
-    (λ c κs. search needs)
     (λ c.
-    let t = c .before .before .before .before in
+    let t = c .before .before in
     let p = t .before .before .before .pre .1 in
-    solves-fair (p .0) (p .1) (t .if1 .taken) (c .needs-limit .ensures))
+    solves-fair (p .0) (p .1) (t .if1 .taken) _)
     (λ c κs. let p = c .before .before .before .before .pre in (p .0, (p .1 .0, (p .1 .1, c .before .if1 .left))))
     (λ c. c .numbered-stable .ensures))

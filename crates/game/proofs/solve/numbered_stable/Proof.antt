@@ -5,7 +5,7 @@ use native.Mathlib.Omega.{arith}
 use borrow.Author.Needs.{needs}
 use lib.ListN.{length, length-map}
 use Rattle.automaton.specs.Limits.{stateLimit}
-use Rattle.game.proofs.SolutionLaws.{solves-cannot, asks-narrow, asks-widened, solves-stable}
+use Rattle.game.proofs.SolutionLaws.{solves-cannot, asks-narrow, solves-stable}
 use Rattle.game.proofs.solve.numbered_stable.Statement.{statement}
 use Rattle.game.proofs.solve.numbered_stable.Tie as tie
 
@@ -14,7 +14,7 @@ system-length : (c : tie.Start) → length (c .args .ranks .system) ≡ stateLim
 system-length c = sym (length-map (c .args .ranks .system) (λ v. v)) ∙ c .good .1 .1 .1 .1 .0 .1 .1 .0 .1 .0 .1
 
 abbrev begin : tie.After-narrow → tie.Start
-begin c = c .before .before .before .before .before .before .before .before
+begin c = c .before .before .before .before .before .before .before .before .before
 
 pub numbered-stable-spec : {M : Type 1} → statement M
 numbered-stable-spec =
@@ -23,9 +23,9 @@ numbered-stable-spec =
     (λ c. search needs)
     (λ c. search needs)
     (λ c. search needs)
-    (λ c. let p = c .before .before .before .before .before .before .pre .1 in solves-cannot (p .0) (p .1 .0) (c .before .if1 .taken))
+    (λ c. let p = c .before .before .before .before .before .before .pre .1 in solves-cannot (p .0) (p .1 .0) (c .if1 .taken))
     (λ c κs.
-    let z = c .before .before .before .before .before .before .before in
+    let z = c .before .before .before .before .before .before .before .before in
     let p = z .pre in
     let q = asks-narrow (p .1 .0) (p .1 .1 .0) (p .1 .1 .1) (c .before .before .if1 .left) in
     (p .0, ((p .1 .0, q .0), (q .1, (q .2, (q .3, system-length z))))))
@@ -33,8 +33,8 @@ numbered-stable-spec =
     let n = c .before .before .before .before in
     let p = begin n .pre in
     let e = n .narrow .ensures in
-    let q = asks-widened (p .1 .0) (p .1 .1 .0) (p .1 .1 .1) (e .0) in
-    (p .0, (q .0, (q .1, (omega (arith, e .0 .few, p .0 .moving .states-fit), e .1)))))
+    let q = asks-narrow (p .1 .0) (p .1 .1 .0) (p .1 .1 .1) (n .before .before .before .if1 .left) in
+    (p .0, (e .0 .bounds, (e .0 .ranked, (e .0 .won, (e .0 .low, (q .3, (q .1, (q .2, (e .0 .few, e .1))))))))))
     (λ c.
     let n = c .before .before .before .before .before in
     let p = begin n .pre .1 in

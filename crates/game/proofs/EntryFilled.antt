@@ -25,10 +25,7 @@ use Rattle.plays.proofs.RankLaws.{system-wins}
 use Rattle.plays.proofs.RoundLaws.{round-number, no-round}
 use Rattle.plays.proofs.WinLaws.{won-by, not-won}
 use Rattle.plays.proofs.NumberLaws.{need-number, distance-number, count-number}
-
--- the lowest number with a property is the lowest with the same property in other words
-lowest-map : {P Q : ℕ → Type 0} {b : ℕ} → ((c : ℕ) → P c → Q c) → ((c : ℕ) → Q c → P c) → Lowest P b → Lowest Q b
-lowest-map {b = b} f g l = record { has = f b (l .has); lowest = λ c h q. l .lowest c h (g c q) }
+use Rattle.plays.proofs.EntryLaws.{lowest-map}
 
 -- ---- a state is won by the system exactly where it has a rank of the system's
 

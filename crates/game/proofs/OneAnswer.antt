@@ -37,7 +37,8 @@ use Rattle.plays.proofs.CaseLaws.{below-or}
 use Rattle.plays.proofs.Determined.{one-winner}
 use Rattle.plays.proofs.RoundLaws.{one-round}
 use Rattle.plays.proofs.WinLaws.{won-by, not-won}
-use Rattle.plays.proofs.EntryLaws.{Closed, one-system, one-environment}
+use Rattle.plays.specs.inner.Rank.{Enclosed}
+use Rattle.plays.proofs.EntryLaws.{one-system, one-environment}
 use Rattle.game.specs.declared.answer.Answer.{Answer}
 use Rattle.game.specs.declared.answer.Answer.the-variants.{Refused}
 use Rattle.game.specs.declared.follow.Position.{Position}
@@ -58,7 +59,7 @@ use Rattle.game.proofs.RuleLaws.{automaton-closed}
 abbrev Played : (mode : Mode) (start : ℕ) (σ₀ τ₀ σ τ : List ℕ) (r : ℕ) (G : Arena) → Type 0
 Played mode start σ₀ τ₀ σ τ r G = Tables mode G σ₀ τ₀ σ τ × Verdict mode G σ τ start r
 
-module _ (mode : Mode) (G : Arena) (some-inputs : 0 < G .inputs) (some-outputs : 0 < G .outputs) (closed : Closed G) (start : ℕ)
+module _ (mode : Mode) (G : Arena) (some-inputs : 0 < G .inputs) (some-outputs : 0 < G .outputs) (closed : Enclosed G) (start : ℕ)
     (σ₀ τ₀ σ τ σ′ τ′ : List ℕ) (r r′ : ℕ) (x : Played mode start σ₀ τ₀ σ τ r G) (y : Played mode start σ₀ τ₀ σ′ τ′ r′ G) where
   -- the start has one round number, by whatever tables
   same-round : r ≡ r′

@@ -24,6 +24,7 @@ use Rattle.automaton.specs.Trace.{Satisfies}
 use Rattle.automaton.specs.State.{start, accepts}
 use Rattle.automaton.specs.Discovery.{states}
 use Rattle.automaton.specs.Automaton.{Automaton}
+use Rattle.plays.specs.inner.Rank.{Enclosed}
 use Rattle.plays.specs.declared.mode.Mode.{Mode}
 use Rattle.plays.specs.Arena.{Arena, arena, next, goal}
 use Rattle.plays.specs.Play.{Step, Legal, entered, standsOn, reaches, letters, Along}
@@ -124,7 +125,7 @@ module _ (φ : Formula) (i o n : ℕ) (transitions flags : List ℕ) (mask : ℕ
   on-product = subst (λ (L : ℕ). Automaton φ L n transitions flags) (pow-add 2 i o) automaton
 
   -- no transition leaves the n states
-  pub automaton-closed : (s x y : ℕ) → s < n → x < 2 ^ i → y < 2 ^ o → next G s x y < n
+  pub automaton-closed : Enclosed G
   unfolding next
   automaton-closed s x y hs hx hy = on-product .moved s (letterOf (2 ^ i) x y) hs (letter-below (2 ^ i) (2 ^ o) x y hx hy) .0
 

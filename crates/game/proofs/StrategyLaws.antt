@@ -139,5 +139,5 @@ module _ {fair : Bool} {G : Arena} {start m r : ℕ} {near system environment σ
       }
 
   -- what the tables that are filled by the solver's ranks are good for
-  pub filled : Valid G → 0 < G .inputs → 0 < G .outputs → Tables (modeOf fair) G σ₀ τ₀ σ τ × Verdict (modeOf fair) G σ τ start r
-  filled valid _ some = (filled-tables, filled-verdict valid some)
+  pub filled : Valid G → 0 < G .outputs → Tables (modeOf fair) G σ₀ τ₀ σ τ × Verdict (modeOf fair) G σ τ start r
+  filled valid some = (filled-tables, filled-verdict valid some)

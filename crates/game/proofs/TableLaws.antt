@@ -16,6 +16,7 @@ use Rattle.plays.specs.inner.Rank.{judged, Safe, Falls, Ranked, AllowedInput}
 use Rattle.game.specs.Tables.{noMove}
 use Rattle.game.specs.inner.Bytes.{limitOf, Below, IsBelow, GoodOutput, LegalOutput, SomeOutput, EveryOutput, Claim, FirstStop, IsSafe}
 use Rattle.game.specs.inner.Bytes.{SystemByte, MixedByte, EnvironmentByte}
+use Rattle.plays.proofs.EntryLaws.{lowest-map}
 use Rattle.game.proofs.ForcingLaws.{safe-map}
 use Rattle.reader.proofs.BoolLaws.{on, clash}
 
@@ -129,10 +130,9 @@ module _ (fair : Bool) (G : Arena) (most : ℕ) (r : List ℕ) (s x : ℕ) (p : 
   output-is-byte y h =
       record {
         none = λ e. let z : ⊥ = omega arith in absurd z;
-        lowest = λ _. record {
-          has = (h .has .0, limit-safe G true fair most r s x b eb limit el (next G s x y) (h .has .1));
-          lowest = λ c l d. h .lowest c l (d .0, safe-limit G true fair most r s x b eb limit el (next G s x c) (d .1));
-        };
+        lowest = λ _. lowest-map
+            (λ c d. (d .0, limit-safe G true fair most r s x b eb limit el (next G s x c) (d .1)))
+            (λ c d. (d .0, safe-limit G true fair most r s x b eb limit el (next G s x c) (d .1))) h;
       }
 
 -- the environment's byte: an input all whose outputs are below the limit is allowed, and any other is not

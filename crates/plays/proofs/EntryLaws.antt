@@ -13,6 +13,7 @@ use Rattle.plays.specs.Strategy.{systemByte, environmentByte}
 use Rattle.plays.specs.Round.{Reaching}
 use Rattle.plays.specs.Number.{Won}
 use Rattle.plays.specs.Entry.{Lowest, OutputServes, FairServes, StableServes, FairEntries, StableEntries, Entries}
+use Rattle.plays.specs.inner.Rank.{Enclosed}
 use Rattle.plays.proofs.CaseLaws.{zero-or, below-or}
 use Rattle.plays.proofs.RoundLaws.{one-smallest, one-round}
 use Rattle.plays.proofs.NumberLaws.{one-fewest}
@@ -22,11 +23,11 @@ pub one-lowest : {P Q : ℕ → Type 0} {a b : ℕ} → ((c : ℕ) → P c → Q
 one-lowest {P} {Q} {a} {b} to from l m =
     below-or a b (λ h. absurd (m .lowest a h (to a (l .has)))) (λ le. below-or b a (λ h. absurd (l .lowest b h (from b (m .has)))) (λ ge. omega arith))
 
--- no transition of a state below n leaves the n states
-abbrev pub Closed : Arena → Type 0
-Closed G = (s x y : ℕ) → s < G .states → x < G .inputs → y < G .outputs → next G s x y < G .states
+-- and it is the lowest with the same property in other words
+pub lowest-map : {P Q : ℕ → Type 0} {b : ℕ} → ((c : ℕ) → P c → Q c) → ((c : ℕ) → Q c → P c) → Lowest P b → Lowest Q b
+lowest-map {b = b} f g l = record { has = f b (l .has); lowest = λ c h q. l .lowest c h (g c q) }
 
-module _ (G : Arena) (closed : Closed G) where
+module _ (G : Arena) (closed : Enclosed G) where
   -- what serves, serves by numbers that are the same
   output-moved : (ν ν′ : ℕ → ℕ) → ((t : ℕ) → t < G .states → ν t ≡ ν′ t) → (most most′ : ℕ) → most ≡ most′ → (s : ℕ) → s < G .states
       → (x : ℕ) → x < G .inputs → (y : ℕ) → OutputServes G ν most s x y → OutputServes G ν′ most′ s x y
@@ -110,13 +111,13 @@ module _ (G : Arena) (closed : Closed G) where
         (stable-moved (v .count) (u .count) (λ t k l. sym (same-count t k l)) s h lost) (u .inputs s h lost) (v .inputs s h lost)
 
 -- the system's bytes on a state that it wins
-pub one-system : (mode : Mode) (G : Arena) → Closed G → (m : ℕ) (σ τ σ′ τ′ : List ℕ) → Entries mode G m σ τ → Entries mode G m σ′ τ′
+pub one-system : (mode : Mode) (G : Arena) → Enclosed G → (m : ℕ) (σ τ σ′ τ′ : List ℕ) → Entries mode G m σ τ → Entries mode G m σ′ τ′
     → (s : ℕ) → s < G .states → Won mode G s → (x : ℕ) → x < G .inputs → systemByte G σ s x ≡ systemByte G σ′ s x
 one-system Fair G closed m σ τ σ′ τ′ u v = fair-system G closed u v
 one-system Stable G closed m σ τ σ′ τ′ u v = stable-system G closed u v
 
 -- the environment's byte on every other state
-pub one-environment : (mode : Mode) (G : Arena) → Closed G → (m : ℕ) (σ τ σ′ τ′ : List ℕ) → Entries mode G m σ τ → Entries mode G m σ′ τ′
+pub one-environment : (mode : Mode) (G : Arena) → Enclosed G → (m : ℕ) (σ τ σ′ τ′ : List ℕ) → Entries mode G m σ τ → Entries mode G m σ′ τ′
     → (s : ℕ) → s < G .states → (Won mode G s → ⊥) → environmentByte τ s ≡ environmentByte τ′ s
 one-environment Fair G closed m σ τ σ′ τ′ u v = fair-environment G closed u v
 one-environment Stable G closed m σ τ σ′ τ′ u v = stable-environment G closed u v

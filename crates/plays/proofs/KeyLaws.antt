@@ -202,12 +202,13 @@ sum-bound [] s = omega arith
 sum-bound (v ∷ l) zero = omega arith
 sum-bound (v ∷ l) (suc s) = let ih = sum-bound l s in omega arith
 
-module _ (G : Arena) (m n : ℕ) (near far : List ℕ) where
-  abbrev key : ℕ → ℕ
-  key s = mixedKey (sum near) (getD near s 0) (getD far s 0)
+-- the key of a state by two lists of ranks
+abbrev key : (near far : List ℕ) (s : ℕ) → ℕ
+key near far s = mixedKey (sum near) (getD near s 0) (getD far s 0)
 
+module _ (G : Arena) (m n : ℕ) (near far : List ℕ) where
   -- an output by the near ranks, and one by the far ranks on a state that has no near rank
-  lowers-near : (s x y : ℕ) → 0 < getD near s 0 → AllowedOutput false G m near s x y → Lowers G key s x (next G s x y)
+  lowers-near : (s x y : ℕ) → 0 < getD near s 0 → AllowedOutput false G m near s x y → Lowers G (key near far) s x (next G s x y)
   lowers-near s x y w f =
       let t : ℕ = next G s x y in
       ⊎-elim
@@ -218,7 +219,7 @@ module _ (G : Arena) (m n : ℕ) (near far : List ℕ) where
       _⊎_.inr (omega (arith, d .0), λ h. omega (arith, d .1 h)))
       (f .1)
 
-  lowers-far : (s x y : ℕ) → getD near s 0 ≡ 0 → 0 < getD far s 0 → AllowedOutput false G n far s x y → Lowers G key s x (next G s x y)
+  lowers-far : (s x y : ℕ) → getD near s 0 ≡ 0 → 0 < getD far s 0 → AllowedOutput false G n far s x y → Lowers G (key near far) s x (next G s x y)
   lowers-far s x y o w f =
       let t : ℕ = next G s x y in
       ⊎-elim
@@ -235,7 +236,7 @@ pub mixed-wins : (G : Arena) (m n : ℕ) (σ near far : List ℕ) → ((t : ℕ)
     → ((s : ℕ) → getD near s 0 ≡ 0 → 0 < getD far s 0 → (x : ℕ) → x < G .inputs → AllowedOutput false G n far s x (systemByte G σ s x))
     → (s : ℕ) → 0 < getD far s 0 → SystemWins Stable G (G .states) σ s
 mixed-wins G m n σ near far near-within far-within by-near by-far s w =
-    keyed-wins G (key G m n near far)
+    keyed-wins G (key near far)
     (λ t v. ⊎-elim (λ a. near-within t a) (λ b. far-within t (b .1)) (mixed-cases (sum near) (getD near t 0) (getD far t 0) v))
     σ
     (λ u v x l.

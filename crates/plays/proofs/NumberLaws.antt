@@ -14,7 +14,7 @@ use Rattle.plays.specs.Arena.{Arena, next, goal, holds, lacks}
 use Rattle.plays.specs.Play.{Step, entered, standsOn, reaches, count}
 use Rattle.plays.specs.Way.{SystemWay, EnvironmentWay, Inputs, environmentAfter, ByWay, ByInputs}
 use Rattle.plays.specs.Number.{Won, Opens, Resumes, Need, Fewest, Meets, Distance, Count}
-use Rattle.plays.specs.inner.Rank.{Safe, Falls, Ranked}
+use Rattle.plays.specs.inner.Rank.{Enclosed, Safe, Falls, Ranked}
 use Rattle.plays.specs.inner.Beaten.{left, unspent, Outplayed, spent, answered}
 use Rattle.plays.specs.inner.Exact.{ExactNeeds, ExactDistances, ExactCounts}
 use Rattle.reader.proofs.BoolLaws.{on, clash}
@@ -127,7 +127,7 @@ lasting G some (suc j) α legal =
     let q = lasting G some j (environmentAfter a α) (λ past. legal (a ∷ past)) in
     (a ∷ q .0, ((legal [], some), refl, q .1), ap suc (q .2))
 
-module _ (G : Arena) (some : 0 < G .outputs) (closed : (s x y : ℕ) → s < G .states → x < G .inputs → y < G .outputs → next G s x y < G .states)
+module _ (G : Arena) (some : 0 < G .outputs) (closed : Enclosed G)
     (r : List ℕ) (within : (t : ℕ) → 0 < getD r t 0 → t < G .states) (exact : ExactDistances G r)
     (won : (t : ℕ) → t < G .states → getD r t 0 ≡ 0 → Won Fair G t) where
   -- a play of j steps by a way whose first step enters a goal or a won state
@@ -163,8 +163,7 @@ module _ (G : Arena) (some : 0 < G .outputs) (closed : (s x y : ℕ) → s < G .
       )))
       (f .2)
 
-pub distance-number : (G : Arena) → 0 < G .outputs → ((s x y : ℕ) → s < G .states → x < G .inputs → y < G .outputs → next G s x y < G .states)
-    → (r : List ℕ) → Ranked G false false (G .states) r → ExactDistances G r
+pub distance-number : (G : Arena) → 0 < G .outputs → Enclosed G → (r : List ℕ) → Ranked G false false (G .states) r → ExactDistances G r
     → ((t : ℕ) → t < G .states → getD r t 0 ≡ 0 → Won Fair G t) → ((t : ℕ) → 0 < getD r t 0 → Won Fair G t → ⊥)
     → (s : ℕ) → 0 < getD r s 0 → Distance G s (getD r s 0)
 distance-number G some closed r certificate exact won lost s w =

@@ -25,6 +25,10 @@ abbrev pub judged : Arena → Bool → Input → Bool
 judged G true x = holds G x
 judged G false x = lacks G x
 
+-- no transition of the n states leaves them
+abbrev pub Enclosed : Arena → Type 0
+Enclosed G = (s x y : ℕ) → s < G .states → x < G .inputs → y < G .outputs → next G s x y < G .states
+
 -- what a player asks of the state that a step enters: the system is done at a goal, the environment must avoid it
 abbrev pub Safe : (G : Arena) (player : Bool) (t : State) (D : Type 0) → Type 0
 Safe G true t D = (goal G t ≡ true) ⊎ D

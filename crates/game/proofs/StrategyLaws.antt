@@ -9,14 +9,13 @@ use mathlib.Core.Logic.{_⊎_, ⊎-elim}
 use native.Mathlib.Nat.{mul-add-div-right, mul-add-mod-self-right, div-eq-of-lt, mod-eq-of-lt}
 use native.Mathlib.Omega.{arith}
 use lib.ListN.{getD}
-use borrow.Author.Tests.{ne-eqb}
 use Rattle.automaton.specs.Limits.{stateLimit}
 use Rattle.plays.specs.Arena.{Arena}
 use Rattle.plays.specs.Strategy.{systemByte, environmentByte, SystemWins}
 use Rattle.plays.specs.Round.{Reaching, RoundNumber}
 use Rattle.plays.specs.Entry.{Lowest}
 use Rattle.plays.specs.inner.Rank.{modeOf, Ranked, AllowedOutput, AllowedInput}
-use Rattle.game.specs.Tables.{SystemState, EnvironmentState, Tables, Verdict, noMove, needLimit}
+use Rattle.game.specs.Tables.{SystemState, EnvironmentState, Tables, Verdict, noMove}
 use Rattle.game.specs.inner.Game.{Valid}
 use Rattle.game.specs.inner.Bytes.{MixedByte, SystemFilled, EnvironmentFilled}
 use Rattle.game.specs.inner.Solution.{Solves}

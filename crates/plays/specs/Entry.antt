@@ -25,16 +25,16 @@ OutputServes G ν most s x y =
     × ((goal G (next G s x y) ≡ true)
     ⊎ ((0 < ν (next G s x y)) × (holds G x ≡ true → ν (next G s x y) < ν s) × (holds G x ≡ false → ν (next G s x y) ≤ most)))
 
--- fair: input x serves on state s by the distances δ: no output enters a goal or a state lost to the environment, and it has the condition or lowers the
--- distance
+-- fair: input x serves on state s by the distances δ: whatever the output, neither a goal nor a state won by the system is entered, and unless x has the
+-- condition the distance falls
 abbrev pub FairServes : (G : Arena) (δ : State → ℕ) (s : State) (x : Input) → Type 0
 FairServes G δ s x =
     (x < G .inputs)
     × ((y : Output) → y < G .outputs
     → (goal G (next G s x y) ≡ false) × (Won Fair G (next G s x y) → ⊥) × ((holds G x ≡ true) ⊎ (δ (next G s x y) < δ s)))
 
--- stable: input x serves on state s by the counts κ: no output enters a goal or a state without a count, none makes the count grow, and each lowers it if the
--- input lacks the condition
+-- stable: input x serves on state s by the counts κ: whatever the output, neither a goal nor a state won by the system is entered, and the count is no larger
+-- after it, and smaller if x lacks the condition
 abbrev pub StableServes : (G : Arena) (κ : State → ℕ) (s : State) (x : Input) → Type 0
 StableServes G κ s x =
     (x < G .inputs)

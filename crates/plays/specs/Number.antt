@@ -23,13 +23,13 @@ Won mode G s = (k : ℕ) × (ω : SystemWay) × Outputs G ω × Does G (Reaching
 
 -- ---- the system, stable: needs
 
--- the play opens with k steps that pass c
+-- the first k steps are there, and each passes c
 unfoldable pub Opens : (Input → Bool) → ℕ → List Step → Type 0
 Opens c zero p = Unit {0}
 Opens c (suc k) [] = ⊥
 Opens c (suc k) (a ∷ p) = (c (a .input) ≡ true) × Opens c k p
 
--- directly after a step that does not pass c, it has m steps in a row that do
+-- some step does not pass c, and the m steps directly behind it are there and each passes c
 unfoldable pub Resumes : (Input → Bool) → ℕ → List Step → Type 0
 Resumes c m [] = ⊥
 Resumes c m (a ∷ p) = ((c (a .input) ≡ false) × Opens c m p) ⊎ Resumes c m p

@@ -1,7 +1,6 @@
 -- `game::solve::numbered_stable` meets its contract: the two answers when stable.
 -- Assumes nothing.
 use mathlib.Core.Path.{_≡_, sym, _∙_}
-use native.Mathlib.Omega.{arith}
 use borrow.Author.Needs.{needs}
 use lib.ListN.{length, length-map}
 use Rattle.automaton.specs.Limits.{stateLimit}

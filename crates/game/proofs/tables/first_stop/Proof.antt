@@ -74,7 +74,9 @@ first-stop-spec =
     let e = at .enters in
     let w = at .before .loop-test .taken in (
       omega (arith, l .inv .0),
-      subst (λ (b : ℕ). (k : ℕ) → k < b → Claim (not (z .args .player)) (GoodOutput (G z) (z .args .player) (now (z .args .ranks)) (z .args .most) (z .args .s) (z .args .x) k))
+      subst
+          (λ (b : ℕ). (k : ℕ) → k < b
+          → Claim (not (z .args .player)) (GoodOutput (G z) (z .args .player) (now (z .args .ranks)) (z .args .most) (z .args .s) (z .args .x) k))
           (let q : y (at .before) + 1 ≡ z .args .g .outputs - (l .left - 1) = omega (arith, l .inv .0) in q)
           (below-more _ _ (l .inv .1)
           (goes-on (G z) (z .args .s) (z .args .x) (y (at .before)) (e .result) (e .ensures .is _) (now (z .args .ranks)) (z .args .most)

@@ -4,7 +4,7 @@
 //! round     station, fair    a step with the condition costs 1
 //! need      station, stable  the same, and after a step without it the budget is m
 //! distance  outside, fair    each step costs 1, and one with the condition ends the play well
-//! number    outside, stable  a step without the condition costs 1
+//! count     outside, stable  a step without the condition costs 1
 //!
 //! The station has lost where its budget is used up and no goal was entered; the outside where a step enters a goal, or
 //! costs more than there is, or, when fair, enters a state that the station wins. The rest of a play depends on no more
@@ -35,8 +35,8 @@ pub fn distances(board: &Board, wins: &[bool]) -> Numbers {
     first_places(board.game.n, &least(|near| board.outside_step(own, near)))
 }
 
-/// The numbers of the states that the outside wins when stable. The first set is that of a budget of 0.
-pub fn numbers(board: &Board) -> Numbers {
+/// The counts of the states that the outside wins when stable. The first set is that of a budget of 0.
+pub fn counts(board: &Board) -> Numbers {
     let sets = least(|less| greatest(board.all(), |left| board.outside_step(left, less)));
     first_places(board.game.n, &sets[1..])
 }

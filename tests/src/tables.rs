@@ -1,7 +1,7 @@
 //! Both tables, each byte by its rule (specification, "Tables") over the numbers of the states.
 
 use crate::game::{winners, Board, Game};
-use crate::numbers::{distances, needs, numbers, rounds, start_needs, Numbers};
+use crate::numbers::{counts, distances, needs, rounds, start_needs, Numbers};
 use crate::Mode;
 
 /// The two tables of a game, n states' share each; 255 where the other side wins. And the round number of the start,
@@ -52,11 +52,11 @@ pub fn station_by_needs(game: &Game, (m, near): (usize, &Numbers), far: &Numbers
 }
 
 /// The outside's table when stable.
-fn outside_by_numbers(game: &Game, numbers: &Numbers) -> Vec<u8> {
-    let byte = |s: usize| match numbers[s] {
+fn outside_by_counts(game: &Game, counts: &Numbers) -> Vec<u8> {
+    let byte = |s: usize| match counts[s] {
         None => 255,
         Some(own) => input(game, s, |x, t| {
-            numbers[t].is_some_and(|number| if game.condition(x) { number <= own } else { number < own })
+            counts[t].is_some_and(|count| if game.condition(x) { count <= own } else { count < own })
         }),
     };
     (0..game.n).map(byte).collect()
@@ -92,7 +92,7 @@ fn fair(board: &Board, wins: &[bool], start: usize) -> Tables {
 fn stable(board: &Board, wins: &[bool], start: usize) -> Tables {
     let (game, n) = (board.game, board.game.n);
     let far = held(needs(board, n), wins, true);
-    let outside = outside_by_numbers(game, &held(numbers(board), wins, false));
+    let outside = outside_by_counts(game, &held(counts(board), wins, false));
     if !wins[start] {
         return Tables { station: station_by_needs(game, (n, &far), &far), outside, round: 0 };
     }

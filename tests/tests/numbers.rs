@@ -8,7 +8,7 @@ use solver::chance::Chance;
 use solver::game::{winners, Board, Game};
 use solver::judge::judge;
 use solver::longest::{edges_from, most_marked, Edge};
-use solver::numbers::{distances, needs, numbers, rounds, start_needs, Numbers};
+use solver::numbers::{counts, distances, needs, rounds, start_needs, Numbers};
 use solver::tables::{build, Tables};
 use solver::Mode::*;
 
@@ -65,7 +65,7 @@ fn the_lowest_input() {
     let [fair, stable] = [Fair, Stable].map(|mode| Game { mask: 2, ..game(mode, (2, 0, 4), &[3], law) });
     let (fair, stable) = (Board::new(&fair), Board::new(&stable));
     assert_eq!(distances(&fair, &winners(fair.game)), [Some(3), Some(2), Some(1), None]);
-    assert_eq!(numbers(&stable), [Some(2), Some(1), Some(0), None]);
+    assert_eq!(counts(&stable), [Some(2), Some(1), Some(0), None]);
     assert_eq!(build(fair.game, 0).outside, [2, 2, 1, 255]);
     assert_eq!(build(stable.game, 0).outside, [2, 2, 1, 255]);
 }
@@ -113,7 +113,7 @@ fn fair_tables(game: &Game, rounds: &Numbers, distances: &Numbers) -> (Vec<u8>, 
     (stations.map(|(s, x)| station(s, x)).collect(), (0..game.n).map(outside).collect())
 }
 
-/// The tables by the words of their rules, when stable, out of needs for m and for n, and numbers.
+/// The tables by the words of their rules, when stable, out of needs for m and for n, and counts.
 fn stable_tables(game: &Game, m: usize, near: &Numbers, far: &Numbers, numbers: &Numbers) -> (Vec<u8>, Vec<u8>) {
     let station = |s: usize, x: usize| {
         let (needs, most) = if near[s].is_some() { (near, m) } else { (far, game.n) };
@@ -136,7 +136,7 @@ fn stable_tables(game: &Game, m: usize, near: &Numbers, far: &Numbers, numbers: 
 }
 
 /// Holds all numbers and both tables, with every start, to plays. Says what was there: the largest round or need,
-/// whether a need was above its m, whether a won state had none for a round number, the largest distance or number and
+/// whether a need was above its m, whether a won state had none for a round number, the largest distance or count and
 /// 1.
 fn by_plays(game: &Game) -> (usize, bool, bool, usize) {
     let (board, wins) = (Board::new(game), winners(game));
@@ -155,8 +155,8 @@ fn by_plays(game: &Game) -> (usize, bool, bool, usize) {
         (0..game.n).for_each(|start| assert_eq!(bytes(start), wanted, "{game:?}"));
         return (largest(&by_rounds), false, false, largest(&by_distances));
     }
-    let by_numbers: Numbers = (0..game.n).map(|s| number_by_plays(game, s)).collect();
-    assert_eq!(numbers(&board), by_numbers, "{game:?}");
+    let by_counts: Numbers = (0..game.n).map(|s| count_by_plays(game, s)).collect();
+    assert_eq!(counts(&board), by_counts, "{game:?}");
     let by_needs = |m: usize| -> Numbers { (0..game.n).map(|s| need_by_plays(game, s, m)).collect() };
     let all: Vec<Numbers> = (1..=game.n).map(by_needs).collect();
     all.iter().enumerate().for_each(|(k, wanted)| assert_eq!(&needs(&board, k + 1), wanted, "{game:?} {}", k + 1));
@@ -166,10 +166,10 @@ fn by_plays(game: &Game) -> (usize, bool, bool, usize) {
         let m = number.unwrap_or(game.n);
         let near = &all[m - 1];
         lacking |= (0..game.n).any(|s| wins[s] && near[s].is_none());
-        assert_eq!(bytes(start), stable_tables(game, m, near, far, &by_numbers), "{game:?} {start}");
+        assert_eq!(bytes(start), stable_tables(game, m, near, far, &by_counts), "{game:?} {start}");
     }
     let above = (1..=game.n).any(|m| largest(&all[m - 1]) > m);
-    (largest(far), above, lacking, by_numbers.iter().flatten().max().map_or(0, |number| number + 1))
+    (largest(far), above, lacking, by_counts.iter().flatten().max().map_or(0, |number| number + 1))
 }
 
 /// What the games of a test had.
@@ -258,8 +258,8 @@ fn kept_distance(game: &Game, wins: &[bool], table: &[usize], s: usize) -> Optio
     most_marked(game.n, &passed).filter(|_| good).map(|row| row + 1)
 }
 
-/// The number that a table keeps from a state.
-fn kept_number(game: &Game, table: &[usize], s: usize) -> Option<usize> {
+/// The count that a table keeps from a state.
+fn kept_count(game: &Game, table: &[usize], s: usize) -> Option<usize> {
     let edges = edges_from(game.n, &outside_steps(game, table), s);
     most_marked(game.n, &edges).filter(|_| edges.iter().all(|edge| !game.goals[edge.to]))
 }
@@ -289,7 +289,7 @@ fn the_best_tables_keep_the_numbers() {
                 needs(&board, m),
                 "{game:?} {m}"
             );
-            assert_eq!(best(&game, outside, |table, s| kept_number(&game, table, s)), numbers(&board), "{game:?}");
+            assert_eq!(best(&game, outside, |table, s| kept_count(&game, table, s)), counts(&board), "{game:?}");
         }
     }
 }
@@ -318,7 +318,7 @@ fn the_tables_keep_all_numbers_at_once() {
         } else {
             let m = if tables.round > 0 { tables.round } else { game.n };
             kept(true, &needs(&board, m), &|s| kept_need(&game, &station, m, s));
-            kept(false, &numbers(&board), &|s| kept_number(&game, &outside, s));
+            kept(false, &counts(&board), &|s| kept_count(&game, &outside, s));
         }
     }
 }
@@ -338,7 +338,7 @@ fn who_has_a_number() {
             assert!(has(&rounds, 1, game.n, true) && has(&distances(&board, &wins), 1, game.n, false), "{game:?}");
         } else {
             assert!(
-                has(&needs(&board, game.n), 1, game.n, true) && has(&numbers(&board), 0, game.n - 1, false),
+                has(&needs(&board, game.n), 1, game.n, true) && has(&counts(&board), 0, game.n - 1, false),
                 "{game:?}"
             );
         }

@@ -163,6 +163,6 @@ pub fn distance_by_plays(game: &Game, wins: &[bool], s: usize) -> Option<usize> 
 }
 
 /// The number of a state. What can be held for (k + 1) n steps can be held for ever.
-pub fn number_by_plays(game: &Game, s: usize) -> Option<usize> {
+pub fn count_by_plays(game: &Game, s: usize) -> Option<usize> {
     (0..game.n).find(|&k| Play::new(game, s).holds_to(k, game.n * (k + 1)))
 }

@@ -126,7 +126,7 @@ pub fn large(chance: &mut Chance, tally: &mut Tally) -> Result<(), String> {
     Case::good(chance, i, o, n).run(chance, tally)
 }
 
-/// Automata on which distances and numbers of the outside are large; mostly small ones.
+/// Automata on which distances and counts of the outside are large; mostly small ones.
 pub fn outsides(chance: &mut Chance, tally: &mut Tally) -> Result<(), String> {
     let most = chance.pick(&[4, 6, 8, 8, 12, 20, 128]);
     let n = chance.between(1, most);

@@ -2,7 +2,7 @@
 
 use solver::calls::Verdict;
 use solver::game::{Board, Game};
-use solver::numbers::{distances, needs, numbers, Numbers};
+use solver::numbers::{counts, distances, needs, Numbers};
 use solver::tables::station_by_needs;
 use solver::Mode;
 use std::collections::BTreeMap;
@@ -43,12 +43,12 @@ impl Served<'_> {
         (0..self.game.n).any(|s| !self.wins[s] && (0..self.outside[s] as usize).any(|x| keeps(s, x)))
     }
 
-    /// The largest distance, or number, of the outside.
+    /// The largest distance, or count, of the outside.
     fn largest(&self) -> usize {
         let board = Board::new(self.game);
         let numbers = match self.game.mode {
             Mode::Fair => distances(&board, self.wins),
-            Mode::Stable => numbers(&board),
+            Mode::Stable => counts(&board),
         };
         numbers.into_iter().flatten().max().unwrap_or(0)
     }
@@ -73,8 +73,8 @@ impl Served<'_> {
         let Verdict { can, n, round } = self.verdict;
         let largest = self.largest();
         let bytes = vec![
-            ("a distance or number above 1", largest > 1),
-            ("a distance or number above 10", largest > 10),
+            ("a distance or count above 1", largest > 1),
+            ("a distance or count above 10", largest > 10),
             ("an output above the lowest that stays won", self.passes_an_output()),
             ("an input above the lowest that stays won", self.passes_an_input()),
         ];

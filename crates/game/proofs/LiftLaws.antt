@@ -15,7 +15,8 @@ use Rattle.plays.specs.inner.Rank.{Forces, Ranked}
 use Rattle.plays.specs.inner.Beaten.{Beaten, forced}
 use Rattle.game.specs.inner.Game.{Valid}
 use Rattle.game.specs.inner.Serving.{rankedBelow, safeBelow, FirstUnserved}
-use Rattle.game.specs.inner.Needs.{Bounds, Shrinks, Stands, raisedNeed, heightOf, Higher, NextNeed, Swept, Enters, Bars}
+use Rattle.game.specs.inner.Needs.{Bounds, Shrinks, Stands, raisedNeed, heightOf, Higher, NextNeed, Swept}
+use Rattle.game.specs.inner.Wide.{Enters, Bars}
 use Rattle.reader.proofs.BoolLaws.{on, clash}
 use Rattle.plays.proofs.CaseLaws.{zero-or, same-or, below-or}
 use Rattle.game.proofs.LimitLaws.{ranked-below, not-lower}

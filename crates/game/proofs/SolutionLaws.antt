@@ -14,7 +14,8 @@ use Rattle.plays.specs.inner.Beaten.{Beaten}
 use Rattle.plays.specs.inner.Exact.{ExactNeeds}
 use Rattle.game.specs.Tables.{needLimit}
 use Rattle.game.specs.inner.Rounds.{Found}
-use Rattle.game.specs.inner.Needs.{UnrankedBeaten, Narrowed, Wide}
+use Rattle.game.specs.inner.Needs.{UnrankedBeaten, Narrowed}
+use Rattle.game.specs.inner.Wide.{Wide}
 use Rattle.game.specs.inner.Solution.{Solves}
 use Rattle.plays.proofs.BeatenLaws.{held-beaten}
 

@@ -18,7 +18,8 @@ use Rattle.game.specs.inner.Limits.{rankLimit}
 use Rattle.game.specs.inner.Game.{Valid}
 use Rattle.game.specs.inner.Serving.{rankedBelow, safeBelow, FirstUnserved}
 use Rattle.game.specs.inner.Rounds.{Extends, Grows}
-use Rattle.game.specs.inner.Needs.{Bounds, Shrinks, UnrankedBeaten, Enters, Bars, Opened, Hopeful, Looks, Standing, Looked, Widening, Widened, Wide}
+use Rattle.game.specs.inner.Needs.{Bounds, Shrinks, UnrankedBeaten}
+use Rattle.game.specs.inner.Wide.{Enters, Bars, Opened, Hopeful, Looks, Standing, Looked, Widening, Widened, Wide}
 use Rattle.reader.proofs.BoolLaws.{on}
 use Rattle.plays.proofs.CaseLaws.{zero-or, same-or}
 use Rattle.plays.proofs.BeatenLaws.{beaten-less}

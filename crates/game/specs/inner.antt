@@ -5,6 +5,7 @@ pub mod Game
 pub mod Serving
 pub mod Rounds
 pub mod Needs
+pub mod Wide
 pub mod Solution
 pub mod Bytes
 pub mod Checks

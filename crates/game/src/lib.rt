@@ -11,3 +11,4 @@ pub mod rule;
 mod search;
 mod solve;
 mod tables;
+mod wide;

@@ -2,9 +2,9 @@
 use crate::arena::Game;
 use crate::limits::Rank;
 use crate::needs::narrow;
-use crate::needs::widened;
 use crate::rounds::Ranks;
 use crate::rounds::rounds;
+use crate::wide::widened;
 use automaton::limits::NUMBER_LIMIT;
 use automaton::limits::STATE_LIMIT;
 ghost use mathlib.Core.Path.{_≡_};

@@ -1,4 +1,4 @@
--- `game::needs::look` meets its contract: a state that is not due is left, and of one that is due the test on its steps decides.
+-- `game::wide::look` meets its contract: a state that is not due is left, and of one that is due the test on its steps decides.
 -- Assumes nothing.
 use mathlib.Core.Path.{_∙_}
 use Prim.Native.Nat.{_+_, _<_}
@@ -7,8 +7,8 @@ use borrow.Author.Needs.{needs}
 use lib.ListN.{length, length-set}
 use denote.Ref.{now}
 use Rattle.game.proofs.WidenLaws.{look-off, look-waits, look-gains}
-use Rattle.game.proofs.needs.look.Statement.{statement}
-use Rattle.game.proofs.needs.look.Tie as tie
+use Rattle.game.proofs.wide.look.Statement.{statement}
+use Rattle.game.proofs.wide.look.Tie as tie
 
 abbrev begin : tie.After-opened → tie.Start
 begin c = c .before .before .before .before .before .before .before

@@ -1,4 +1,4 @@
--- `game::needs::hopeful` meets its contract: a state that the system does not win, or that has a need, is left, and the first unserved input decides on the
+-- `game::wide::hopeful` meets its contract: a state that the system does not win, or that has a need, is left, and the first unserved input decides on the
 -- others.
 -- Assumes nothing.
 use borrow.Author.Needs.{needs}
@@ -6,8 +6,8 @@ use lib.ListN.{getD}
 use denote.Ref.{now}
 use Rattle.reader.proofs.BoolLaws.{positive}
 use Rattle.game.proofs.WidenLaws.{hopeful-lost, hopeful-has, hopeful-by}
-use Rattle.game.proofs.needs.hopeful.Statement.{statement}
-use Rattle.game.proofs.needs.hopeful.Tie as tie
+use Rattle.game.proofs.wide.hopeful.Statement.{statement}
+use Rattle.game.proofs.wide.hopeful.Tie as tie
 
 pub hopeful-spec : {M : Type 1} → statement M
 hopeful-spec =

@@ -1,10 +1,10 @@
--- `game::needs::larger` meets its contract: by which of the two is the smaller.
+-- `game::wide::larger` meets its contract: by which of the two is the smaller.
 -- Assumes nothing.
 use mathlib.Core.Path.{refl}
 use mathlib.Core.Logic.{_⊎_}
 use native.Mathlib.Omega.{arith}
-use Rattle.game.proofs.needs.larger.Statement.{statement}
-use Rattle.game.proofs.needs.larger.Tie as tie
+use Rattle.game.proofs.wide.larger.Statement.{statement}
+use Rattle.game.proofs.wide.larger.Tie as tie
 
 pub larger-spec : {M : Type 1} → statement M
 larger-spec =

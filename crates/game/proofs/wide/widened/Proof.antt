@@ -1,4 +1,4 @@
--- `game::needs::widened` meets its contract. The invariant: the needs are those of the passes before p, which is at most n + 1 more than the number of states
+-- `game::wide::widened` meets its contract. The invariant: the needs are those of the passes before p, which is at most n + 1 more than the number of states
 -- with one. The measure is the number of passes that there can still be.
 -- Assumes nothing.
 use mathlib.Core.Path.{_≡_, refl}
@@ -10,11 +10,11 @@ use denote.Ref.{now}
 use Rattle.automaton.specs.Limits.{stateLimit}
 use Rattle.game.specs.inner.Game.{arenaOf}
 use Rattle.game.specs.inner.Rounds.{Extends}
-use Rattle.game.specs.inner.Needs.{Widening}
+use Rattle.game.specs.inner.Wide.{Widening}
 use Rattle.game.proofs.CountLaws.{rankedCount, count-bound, count-more}
 use Rattle.game.proofs.WidenLaws.{widens-first, widens-on, widens-more, widens-end}
-use Rattle.game.proofs.needs.widened.Statement.{statement}
-use Rattle.game.proofs.needs.widened.Tie as tie
+use Rattle.game.proofs.wide.widened.Statement.{statement}
+use Rattle.game.proofs.wide.widened.Tie as tie
 
 abbrev Inv-loop : tie.InvT-loop
 Inv-loop g transitions accepting limit system low witness₀ needs₀ due₀ p₀ witness needs due p =

@@ -1,10 +1,10 @@
--- `game::needs::opened` meets its contract: the first unserved input decides.
+-- `game::wide::opened` meets its contract: the first unserved input decides.
 -- Assumes nothing.
 use borrow.Author.Needs.{needs}
 use denote.Ref.{now}
 use Rattle.game.proofs.WidenLaws.{opens-by}
-use Rattle.game.proofs.needs.opened.Statement.{statement}
-use Rattle.game.proofs.needs.opened.Tie as tie
+use Rattle.game.proofs.wide.opened.Statement.{statement}
+use Rattle.game.proofs.wide.opened.Tie as tie
 
 pub opened-spec : {M : Type 1} → statement M
 opened-spec =

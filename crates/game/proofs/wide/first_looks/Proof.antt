@@ -1,4 +1,4 @@
--- `game::needs::first_looks` meets its contract. The invariant: the passes are those of the states below s. The measure is the number of states left.
+-- `game::wide::first_looks` meets its contract. The invariant: the passes are those of the states below s. The measure is the number of states left.
 -- Assumes nothing.
 use mathlib.Core.Path.{_≡_, refl, sym, _∙_, subst}
 use mathlib.Core.Bool.{Bool}
@@ -12,11 +12,11 @@ use denote.Ref.{now}
 use Rattle.automaton.specs.Limits.{stateLimit}
 use Rattle.plays.specs.Arena.{Arena}
 use Rattle.game.specs.inner.Game.{arenaOf}
-use Rattle.game.specs.inner.Needs.{Hopeful, Looks}
+use Rattle.game.specs.inner.Wide.{Hopeful, Looks}
 use Rattle.game.proofs.LimitLaws.{zeros}
 use Rattle.game.proofs.WidenLaws.{no-looks, looks-stays, looks-more, looks-over}
-use Rattle.game.proofs.needs.first_looks.Statement.{statement}
-use Rattle.game.proofs.needs.first_looks.Tie as tie
+use Rattle.game.proofs.wide.first_looks.Statement.{statement}
+use Rattle.game.proofs.wide.first_looks.Tie as tie
 
 abbrev Inv-loop : tie.InvT-loop
 Inv-loop g transitions accepting limit system needs witness₀ states due₀ s₀ witness due s =

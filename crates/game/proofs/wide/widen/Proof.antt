@@ -1,4 +1,4 @@
--- `game::needs::widen` meets its contract. The invariant: the pass has been made over the states below s. The measure is the number of states left.
+-- `game::wide::widen` meets its contract. The invariant: the pass has been made over the states below s. The measure is the number of states left.
 -- Assumes nothing.
 use mathlib.Core.Path.{_≡_, sym, subst}
 use mathlib.Core.Bool.{Bool, true}
@@ -11,10 +11,10 @@ use denote.Ref.{now}
 use Rattle.automaton.specs.Limits.{stateLimit}
 use Rattle.plays.specs.Arena.{Arena}
 use Rattle.game.specs.inner.Game.{arenaOf}
-use Rattle.game.specs.inner.Needs.{Widened}
+use Rattle.game.specs.inner.Wide.{Widened}
 use Rattle.game.proofs.WidenLaws.{widen-starts, widen-more, widen-over}
-use Rattle.game.proofs.needs.widen.Statement.{statement}
-use Rattle.game.proofs.needs.widen.Tie as tie
+use Rattle.game.proofs.wide.widen.Statement.{statement}
+use Rattle.game.proofs.wide.widen.Tie as tie
 
 abbrev Inv-loop : tie.InvT-loop
 Inv-loop g transitions accepting limit system needs₀ due₀ p witness₀ states going₀ s₀ needs due witness going s =

@@ -63,8 +63,8 @@ fn larger(a: Rank, b: Rank) -> Rank
     a
 }
 
-// The pass in which each state is due: for one that may have a need above the limit its need with n, which is no larger, and no pass before the first; 0 for the
-// others.
+// The pass in which each state is due: for one that may have a need above the limit its need with n, which is no larger, and no pass before the first; 0 for
+// the others.
 fn first_looks(
     g: Game,
     transitions: &[u8],
@@ -119,8 +119,8 @@ fn opened(
     g.inputs <= x
 }
 
-// Looks at state s in pass p if it is due: gives it the need p, or puts it off to the next pass. Says whether another pass may give a need: the state got one, or
-// is due later.
+// Looks at state s in pass p if it is due: gives it the need p, or puts it off to the next pass. Says whether another pass may give a need: the state got one,
+// or is due later.
 fn look(
     g: Game,
     transitions: &[u8],

@@ -69,7 +69,10 @@ module _ (G : Arena) (R : ℕ → Step → Type 0) (player steady : Bool) (most 
   count-falls t s (a ∷ p) w h e =
       let d = falls s a w (h .0) (first-avoids G s a p e) in
       let rest = count-falls t (entered G s a) p (d .0) (h .1) (others-avoid G s a p e) in
-      ⊎-elim (λ j. rw j (omega (arith, rest, d .1 j))) (λ j. rw j (omega (arith, rest, d .2 j, cap-steady steady most (getD r s 0) t))) (decided (judged G player (a .input)))
+      ⊎-elim
+      (λ j. rw j (omega (arith, rest, d .1 j)))
+      (λ j. rw j (omega (arith, rest, d .2 j, cap-steady steady most (getD r s 0) t)))
+      (decided (judged G player (a .input)))
 
   -- the rank of a state on the way stays within n, where the first one and the cap are
   stays-within : (n s : ℕ) (p : List Step) → Within steady most r n s → 0 < getD r s 0 → Along G R s p → reaches G s p ≡ false

@@ -1,5 +1,5 @@
--- Needs: the system's ranks when stable with a limit l on steps in a row after one without the condition, lifted from 1 until they stand; one above the limit is
--- dropped, to 0.
+-- Needs: the system's ranks when stable with a limit l on steps in a row after one without the condition, lifted from 1 until they stand; one above the limit
+-- is dropped, to 0.
 -- Assumes nothing.
 use Prim.Native.Nat.{ℕ, _+_, _<_, _≤_}
 use mathlib.Core.Path.{_≡_}

@@ -18,8 +18,8 @@ pub record ExactNeeds (G : Arena) (m : ℕ) (r : List ℕ) : Type 0 where
   pub ranked : Ranked G true false m r
   pub beaten : (s k : ℕ) → s < G .states → (0 < getD r s 0 → k < getD r s 0) → Beaten false G m s k
 
--- fair, the environment: below its rank the system can see to it that the next step enters a goal, or a state where the environment has no rank, or, without the
--- condition, one where its rank is not lower
+-- fair, the environment: below its rank the system can see to it that the next step enters a goal, or a state where the environment has no rank, or, without
+-- the condition, one where its rank is not lower
 abbrev pub ExactDistances : (G : Arena) (r : List ℕ) → Type 0
 ExactDistances G r = (s p : ℕ) → 0 < p → p < getD r s 0
     → Forces G true s (λ x t. (0 < getD r t 0 → p ≤ getD r t 0) × (holds G x ≡ true → getD r t 0 ≡ 0))

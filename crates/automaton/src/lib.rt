@@ -7,6 +7,7 @@ pub mod construct;
 mod coordinates;
 mod evaluate;
 mod explore;
+mod fill;
 mod fold;
 pub mod limits;
 mod mask;

@@ -3,6 +3,7 @@ ghost use mathlib.Core.Path.{_≡_};
 ghost use Rattle.game.specs.Answer.{answerNumber, answerPlace, answerStates, answerRound};
 ghost use Rattle.capi.specs.Verdict.{canFlag};
 use game::answer::Answer;
+use reader::refusal::needed_of;
 use reader::refusal::number_of;
 use reader::refusal::place_of;
 
@@ -39,14 +40,14 @@ pub(crate) fn can_flag(answer: Answer) -> u8
     }
 }
 
-// The number of states, 0 for a refusal.
+// The number of states: of a verdict, or what a refusal by 3 needs, and 0 for every other refusal.
 pub(crate) fn states_of(answer: Answer) -> usize
     ensures { λ r. ⌜ r ≡ answerStates answer ⌝ }
 {
     match answer {
         Answer::Can(n, _) => n,
         Answer::Cannot(n) => n,
-        Answer::Refused(_) => 0,
+        Answer::Refused(x) => needed_of(x),
     }
 }
 

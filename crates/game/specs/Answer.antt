@@ -3,7 +3,7 @@
 use Prim.Native.Nat.{ℕ}
 use mathlib.Core.Bool.{cond}
 use lib.Dec.{eqb}
-use Rattle.reader.specs.Refusal.{numberOf, placeOf}
+use Rattle.reader.specs.Refusal.{numberOf, placeOf, neededOf}
 use Rattle.game.specs.declared.answer.Answer.{Answer}
 use Rattle.game.specs.declared.answer.Answer.the-variants.{Can, Cannot, Refused}
 
@@ -23,11 +23,11 @@ answerPlace (Refused x) = placeOf x
 abbrev pub verdictOf : (n r : ℕ) → Answer
 verdictOf n r = cond (eqb r 0) (Cannot n) (Can n r)
 
--- the number of states of a verdict, and 0 for a refusal
+-- the number of states: of a verdict, and of a refusal by 3 the states that the buffers must have room for; 0 for every other refusal
 abbrev pub answerStates : Answer → ℕ
 answerStates (Can n r) = n
 answerStates (Cannot n) = n
-answerStates (Refused x) = 0
+answerStates (Refused x) = neededOf x
 
 -- the round number of a verdict: 0 for "cannot", and 0 for a refusal
 abbrev pub answerRound : Answer → ℕ

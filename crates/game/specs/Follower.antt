@@ -1,11 +1,10 @@
 -- The follower (specification, "Calls"): one step of the system's strategy from a position, which is a state and whether a goal was entered.
 -- Its answer is the declared type `Followed`; its order is 1, 10, 3, 12, 13, "no row", 11.
 -- Assumes nothing.
-use Prim.Native.Nat.{ℕ, _*_}
+use Prim.Native.Nat.{ℕ}
 use mathlib.Core.Path.{_≡_}
 use mathlib.Core.Bool.{Bool, cond, _||_}
-use lib.Dec.{ltb, leb}
-use lib.ListN.{length}
+use lib.Dec.{leb}
 use Rattle.reader.specs.declared.refusal.Refusal.{Refusal}
 use Rattle.reader.specs.declared.refusal.Refusal.the-variants.{Nothing, Alphabet, Buffer, GivenCount, Move, State, Value}
 use Rattle.reader.specs.Refusal.{numberOf, placeOf}
@@ -15,11 +14,7 @@ use Rattle.game.specs.declared.follow.Followed.{Followed}
 use Rattle.game.specs.declared.follow.Followed.the-variants.{Moved, NoRow, Refused}
 use Rattle.plays.specs.Arena.{Input, Output, Arena, moveIndex, next, goal}
 use Rattle.plays.specs.Strategy.{Table, systemByte}
-use Rattle.game.specs.Given.{badCount, shortRead}
-
--- refusal 3, for the table that is read: n states' share
-abbrev pub shortStrategy : Arena → Table → Bool
-shortStrategy G σ = ltb (length σ) (G .states * G .inputs)
+use Rattle.game.specs.Given.{badCount, shortRead, shortStrategy}
 
 -- the position after a step into state t
 abbrev pub positionAt : Arena → Position → ℕ → Position
@@ -37,7 +32,7 @@ unfolding next
 followRefusal i o G σ p x =
     cond (badAlphabet i o) Alphabet
     (cond (badCount (G .states)) GivenCount
-    (cond (shortRead G || shortStrategy G σ) Buffer
+    (cond (shortRead G || shortStrategy G σ) (Buffer (G .states))
     (cond (leb (G .states) (p .state)) State
     (cond (leb (G .inputs) x) (Value 0)
     (cond (leb (G .outputs) (systemByte G σ (p .state) x)) Nothing
@@ -48,7 +43,7 @@ followRefusal i o G σ p x =
 unfoldable pub laterFollowed : (G : Arena) (σ : Table) (p : Position) (x : ℕ) → Followed
 unfolding next goal
 laterFollowed G σ p x =
-    cond (shortRead G || shortStrategy G σ) (Refused Buffer)
+    cond (shortRead G || shortStrategy G σ) (Refused (Buffer (G .states)))
     (cond (leb (G .states) (p .state)) (Refused State)
     (cond (leb (G .inputs) x) (Refused (Value 0))
     (cond (leb (G .outputs) (systemByte G σ (p .state) x)) NoRow

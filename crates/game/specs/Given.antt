@@ -31,9 +31,13 @@ moveCount G = G .states * (G .inputs * G .outputs)
 abbrev pub shortRead : Arena → Bool
 shortRead G = ltb (length (G .transitions)) (moveCount G) || ltb (length (G .accepting)) (G .states)
 
--- refusal 3, for the tables: the share of as many states as the limit
+-- refusal 3, for the system's table, here and in the follower
+abbrev pub shortStrategy : Arena → Table → Bool
+shortStrategy G σ = ltb (length σ) (G .states * G .inputs)
+
+-- refusal 3, for both tables
 abbrev pub shortTables : Arena → Table → Table → Bool
-shortTables G σ τ = ltb (length σ) (stateLimit * G .inputs) || ltb (length τ) stateLimit
+shortTables G σ τ = shortStrategy G σ || ltb (length τ) (G .states)
 
 -- refusal 13: the mask has a bit from 2^i up
 abbrev pub badMask : Arena → Bool
@@ -42,7 +46,7 @@ badMask G = not (eqb (G .mask / 2 ^ G .inputs) 0)
 -- the later refusals, once the numbers i, o and n are in range: 3, 12, 11, 13
 unfoldable pub laterRefusal : (start : ℕ) (G : Arena) (σ τ : Table) → Refusal
 laterRefusal start G σ τ =
-    cond (shortRead G || shortTables G σ τ) Buffer
+    cond (shortRead G || shortTables G σ τ) (Buffer (G .states))
     (cond (leb (G .states) start) State
     (afterList (G .states) (take (moveCount G) (G .transitions)) Move
     (cond (badMask G) (Value 0) Nothing)))

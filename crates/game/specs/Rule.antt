@@ -1,4 +1,4 @@
--- The rule call (specification, "Calls"): demands 1, 2 and 3 for a rule. Its answer is the declared type `Answer`; its order of refusals is 1 to 9.
+-- The rule call (specification, "Calls"): demands 1, 2 and 3 for a rule. Its answer is the declared type `Answer`; its order of refusals is 1, 2, 4 to 9, 3.
 -- Assumes nothing.
 use Prim.Native.Nat.{ℕ, _*_, _^_, _<_, _≤_}
 use mathlib.Core.Path.{_≡_}
@@ -19,7 +19,7 @@ use Rattle.automaton.specs.Limits.{stateLimit}
 use Rattle.automaton.specs.Alphabet.{badAlphabet, letterCount}
 use Rattle.automaton.specs.Trace.{Satisfies}
 use Rattle.automaton.specs.Automaton.{Automaton}
-use Rattle.automaton.specs.Buffer.{Cleared}
+use Rattle.automaton.specs.Buffer.{Kept}
 use Rattle.automaton.specs.Construction.{CountOf, shortAutomaton, Over}
 use Rattle.automaton.specs.Condition.{maskOf, Judges}
 use Rattle.game.specs.declared.answer.Answer.{Answer}
@@ -60,21 +60,21 @@ pub record Buffers : Type 0 where
 abbrev pub buffers : (t a : List ℕ) (σ τ : Table) → Buffers
 buffers t a σ τ = record { transitions = t; accepting = a; system = σ; environment = τ }
 
--- refusal 3: a buffer is too short for as many states as the limit
-abbrev pub shortBuffers : ℕ → ℕ → Buffers → Bool
-shortBuffers i o old =
-    shortAutomaton (letterCount i o) (old .transitions) (old .accepting)
-    || (ltb (length (old .system)) (stateLimit * 2 ^ i) || ltb (length (old .environment)) stateLimit)
+-- refusal 3: a buffer is too short for n states
+abbrev pub shortBuffers : (i o n : ℕ) → Buffers → Bool
+shortBuffers i o n old =
+    shortAutomaton (letterCount i o) n (old .transitions) (old .accepting)
+    || (ltb (length (old .system)) (n * 2 ^ i) || ltb (length (old .environment)) n)
 
 -- the refusal that comes first, for texts with the readings ρ and κ and a rule with n states
 unfoldable pub ruleRefusal : (i o : ℕ) (rule condition : Text) (old : Buffers) (ρ κ : Reading) (n : ℕ) → Refusal
 ruleRefusal i o rule condition old ρ κ n =
     cond (badAlphabet i o) Alphabet
     (cond (tooLong rule || tooLong condition) TextLength
-    (cond (shortBuffers i o old) Buffer
     (afterRule ρ
     (afterCondition κ
-    (cond (ltb stateLimit n) StateCount Nothing)))))
+    (cond (ltb stateLimit n) StateCount
+    (cond (shortBuffers i o n old) (Buffer n) Nothing)))))
 
 -- a served call: the formulas of the two texts, the automaton, both tables, the verdict with its round number r and what it promises
 pub record RuleServed (mode : Mode) (i o : ℕ) (rule condition : Text) (old new : Buffers) (n r : ℕ) : Type 0 where
@@ -84,8 +84,8 @@ pub record RuleServed (mode : Mode) (i o : ℕ) (rule condition : Text) (old new
   pub assumed : IsGood i (conditionKind i) condition assumption
   pub judges : Judges assumption i (maskOf assumption i)
   pub automaton : Automaton formula (letterCount i o) n (new .transitions) (new .accepting)
-  pub transitions-rest : Cleared (n * letterCount i o) (stateLimit * letterCount i o) (old .transitions) (new .transitions)
-  pub accepting-rest : Cleared n stateLimit (old .accepting) (new .accepting)
+  pub transitions-kept : Kept (n * letterCount i o) (old .transitions) (new .transitions)
+  pub accepting-kept : Kept n (old .accepting) (new .accepting)
   pub tables : Tables mode (arena i o n (new .transitions) (new .accepting) (maskOf assumption i))
       (old .system) (old .environment) (new .system) (new .environment)
   pub verdict : Verdict mode (arena i o n (new .transitions) (new .accepting) (maskOf assumption i)) (new .system) (new .environment) 0 r
@@ -107,6 +107,5 @@ pub record RuleSolved (mode : Mode) (i o : ℕ) (rule condition : Text) (old new
   pub number : answerNumber r ≡ numberOf refusal
   pub place : answerPlace r ≡ placeOf refusal
   pub served : refusal ≡ Nothing → (round : ℕ) × (r ≡ verdictOf states round) × RuleServed mode i o rule condition old new states round
-  pub refused : (refusal ≡ Nothing → ⊥) → (r ≡ Refused refusal) × (new .system ≡ old .system) × (new .environment ≡ old .environment)
-  pub over : refusal ≡ StateCount → Over i o rule (old .transitions) (old .accepting) (new .transitions) (new .accepting)
-  pub untouched : (refusal ≡ Nothing → ⊥) → (refusal ≡ StateCount → ⊥) → (new .transitions ≡ old .transitions) × (new .accepting ≡ old .accepting)
+  pub refused : (refusal ≡ Nothing → ⊥) → (r ≡ Refused refusal) × (new ≡ old)
+  pub over : refusal ≡ StateCount → Over i o rule

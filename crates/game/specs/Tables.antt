@@ -1,13 +1,12 @@
 -- The two tables that are handed out (specification, "Calls" and "Tables"): every state below n is won by one player, whose bytes there are the lowest that
--- serve, the other player's bytes there are 255, from n up to the limit on states all bytes are 255, and bytes beyond are as they were.
+-- serve, the other player's bytes there are 255, and bytes beyond n states' share are as they were.
 -- Assumes nothing.
-use Prim.Native.Nat.{ℕ, _*_, _<_, _≤_}
+use Prim.Native.Nat.{ℕ, _*_, _<_}
 use mathlib.Core.Path.{_≡_}
 use mathlib.Core.Bool.{cond}
 use mathlib.Core.Logic.{_⊎_}
 use lib.Dec.{eqb}
-use lib.ListN.{length, getD}
-use Rattle.automaton.specs.Limits.{stateLimit}
+use Rattle.automaton.specs.Buffer.{Kept}
 use Rattle.plays.specs.declared.mode.Mode.{Mode}
 use Rattle.plays.specs.Arena.{State, Input, Arena}
 use Rattle.plays.specs.Strategy.{Table, systemByte, environmentByte, SystemWins, EnvironmentWins}
@@ -33,12 +32,8 @@ pub record EnvironmentState (mode : Mode) (G : Arena) (σ τ : Table) (s : State
 -- both tables, in buffers that held σ₀ and τ₀
 pub record Tables (mode : Mode) (G : Arena) (σ₀ τ₀ σ τ : Table) : Type 0 where
   pub won : (s : State) → s < G .states → SystemState mode G σ τ s ⊎ EnvironmentState mode G σ τ s
-  pub system-rest : (s : State) (x : Input) → G .states ≤ s → s < stateLimit → x < G .inputs → systemByte G σ s x ≡ noMove
-  pub system-beyond : (k : ℕ) → stateLimit * G .inputs ≤ k → getD σ k 0 ≡ getD σ₀ k 0
-  pub system-size : length σ ≡ length σ₀
-  pub environment-rest : (s : State) → G .states ≤ s → s < stateLimit → environmentByte τ s ≡ noMove
-  pub environment-beyond : (k : ℕ) → stateLimit ≤ k → getD τ k 0 ≡ getD τ₀ k 0
-  pub environment-size : length τ ≡ length τ₀
+  pub system-kept : Kept (G .states * G .inputs) σ₀ σ
+  pub environment-kept : Kept (G .states) τ₀ τ
 
 -- what the needs of states are taken with when stable, on n states: the round number r of the start on "can", else n
 abbrev pub needLimit : (n r : ℕ) → ℕ

@@ -1,11 +1,12 @@
 // The tests of numbers and buffers that the calls share.
 ghost use mathlib.Core.Path.{_≡_};
 ghost use mathlib.Core.Bool.{false};
+ghost use mathlib.Core.List.{[]};
 ghost use Rattle.automaton.specs.Alphabet.{badAlphabet};
 ghost use Rattle.plays.specs.inner.Rank.{isFair};
 ghost use Rattle.game.specs.inner.Game.{arenaAt};
 ghost use Rattle.game.specs.inner.Checks.{sizesOf, gameOf, InRange};
-ghost use Rattle.game.specs.Given.{badCount, shortRead};
+ghost use Rattle.game.specs.Given.{badCount, shortRead, shortStrategy};
 use crate::arena::Game;
 use crate::arena::Sizes;
 use automaton::alphabet::power;
@@ -73,4 +74,13 @@ pub(crate) fn short_read(sizes: Sizes, transitions: &[u8], accepting: &[u8]) -> 
         return true;
     }
     accepting.len() < sizes.states
+}
+
+// Whether the system's table is too short for the states.
+pub(crate) fn short_strategy(sizes: Sizes, system: &[u8]) -> bool
+    requires { ⌜ InRange sizes ⌝ }
+    ensures { λ r. ⌜ r ≡ shortStrategy (arenaAt sizes [] [] 0) (now (system .entry)) ⌝ }
+{
+    let rows = sizes.states * sizes.inputs;
+    system.len() < rows
 }

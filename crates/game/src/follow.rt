@@ -8,10 +8,11 @@ ghost use Rattle.plays.specs.Arena.{arena};
 ghost use Rattle.game.specs.inner.Game.{arenaAt};
 ghost use Rattle.game.specs.inner.Checks.{InRange};
 ghost use Rattle.game.specs.Given.{shortRead};
-ghost use Rattle.game.specs.Follower.{shortStrategy, movedBy, laterFollowed, FollowedBy};
+ghost use Rattle.game.specs.Follower.{movedBy, laterFollowed, FollowedBy};
 use crate::arena::Sizes;
 use crate::checks::bad_count;
 use crate::checks::short_read;
+use crate::checks::short_strategy;
 use crate::checks::sizes_of;
 use automaton::alphabet::bad_alphabet;
 use automaton::bytes::wide;
@@ -28,15 +29,6 @@ pub enum Followed {
     Moved(u8, Position),
     NoRow,
     Refused(Refusal),
-}
-
-// Whether the table is too short for the states.
-fn short_strategy(sizes: Sizes, system: &[u8]) -> bool
-    requires { ⌜ InRange sizes ⌝ }
-    ensures { λ r. ⌜ r ≡ shortStrategy (arenaAt sizes [] [] 0) (now (system .entry)) ⌝ }
-{
-    let rows = sizes.states * sizes.inputs;
-    system.len() < rows
 }
 
 impl Position {
@@ -97,10 +89,10 @@ impl Position {
         ensures { λ r. ⌜ r ≡ laterFollowed (arenaAt sizes (now (transitions .entry)) (now (accepting .entry)) 0) (now (system .entry)) self x ⌝ }
     {
         if short_read(sizes, transitions, accepting) {
-            return Followed::Refused(Refusal::Buffer);
+            return Followed::Refused(Refusal::Buffer(sizes.states));
         }
         if short_strategy(sizes, system) {
-            return Followed::Refused(Refusal::Buffer);
+            return Followed::Refused(Refusal::Buffer(sizes.states));
         }
         let s = self.state;
         let states = sizes.states;

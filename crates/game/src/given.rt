@@ -15,23 +15,23 @@ use crate::arena::Sizes;
 use crate::checks::bad_count;
 use crate::checks::game_of;
 use crate::checks::short_read;
+use crate::checks::short_strategy;
 use crate::checks::sizes_of;
 use crate::tables::decide;
 use automaton::alphabet::bad_alphabet;
 use automaton::alphabet::first_over;
-use automaton::limits::STATE_LIMIT;
 use plays::mode::Mode;
 use reader::refusal::Refusal;
 
-// Whether a table is too short for as many states as the limit.
+// Whether a table is too short for the states.
 fn short_tables(sizes: Sizes, system: &[u8], environment: &[u8]) -> bool
     requires { ⌜ InRange sizes ⌝ }
     ensures { λ r. ⌜ r ≡ shortTables (arenaAt sizes [] [] 0) (now (system .entry)) (now (environment .entry)) ⌝ }
 {
-    if system.len() < STATE_LIMIT * sizes.inputs {
+    if short_strategy(sizes, system) {
         return true;
     }
-    environment.len() < STATE_LIMIT
+    environment.len() < sizes.states
 }
 
 // Whether the mask has a bit from place `inputs` up.
@@ -58,10 +58,10 @@ fn later_refusal(
         (now (system .entry)) (now (environment .entry)) ⌝ }
 {
     if short_read(sizes, transitions, accepting) {
-        return Refusal::Buffer;
+        return Refusal::Buffer(sizes.states);
     }
     if short_tables(sizes, system, environment) {
-        return Refusal::Buffer;
+        return Refusal::Buffer(sizes.states);
     }
     let states = sizes.states;
     if states <= start {

@@ -1,9 +1,13 @@
 // The rule call.
 ghost use mathlib.Core.Path.{_≡_};
-ghost use mathlib.Core.Bool.{false};
+ghost use mathlib.Core.Bool.{false, _||_};
+ghost use Prim.Native.Nat.{ℕ, _*_, _^_, _≤_};
+ghost use lib.Dec.{ltb};
+ghost use lib.ListN.{length};
 ghost use Rattle.reader.specs.Limits.{tooLong};
+ghost use Rattle.automaton.specs.Limits.{nameLimit};
 ghost use Rattle.automaton.specs.Alphabet.{badAlphabet};
-ghost use Rattle.game.specs.Rule.{Buffers, buffers, shortBuffers, RuleSolved};
+ghost use Rattle.game.specs.Rule.{buffers, RuleSolved};
 ghost use Rattle.game.specs.inner.RuleChecks.{RuleChecked};
 use crate::answer::Answer;
 use crate::answer::verdict;
@@ -15,7 +19,6 @@ use automaton::condition::Assumption;
 use automaton::condition::read_condition;
 use automaton::construct::Construction;
 use automaton::construct::construct;
-use automaton::limits::STATE_LIMIT;
 use plays::mode::Mode;
 use reader::reading::Reading;
 use reader::reading::check;
@@ -30,35 +33,22 @@ pub struct Checked {
     pub mask: u16,
 }
 
-// Whether one of the four buffers is too short for as many states as the limit.
-fn short_buffers(
-    i: usize,
-    o: usize,
-    transitions: &[u8],
-    accepting: &[u8],
-    system: &[u8],
-    environment: &[u8],
-) -> bool
-    requires { ⌜ badAlphabet i o ≡ false ⌝ }
-    ensures { λ r. ⌜ r ≡ shortBuffers i o (buffers (now (transitions .entry)) (now (accepting .entry)) (now (system .entry)) (now (environment .entry))) ⌝ }
+// The number of states for which both tables have room.
+fn table_room(i: usize, system: &[u8], environment: &[u8]) -> usize
+    requires { ⌜ i ≤ nameLimit ⌝ }
+    ensures { λ r. ⌜ ((n : ℕ) → ltb r n ≡ (ltb (length (now (system .entry))) (n * 2 ^ i) || ltb (length (now (environment .entry))) n)) ⌝ }
 {
-    if transitions.len() < STATE_LIMIT * power(i + o) {
-        return true;
+    let rows = system.len() / power(i);
+    if rows < environment.len() {
+        return rows;
     }
-    if accepting.len() < STATE_LIMIT {
-        return true;
-    }
-    if system.len() < STATE_LIMIT * power(i) {
-        return true;
-    }
-    environment.len() < STATE_LIMIT
+    environment.len()
 }
 
 // The refusal by the two texts, once the earlier tests are passed, or the condition's mask.
 fn check_texts(i: usize, o: usize, rule: &[u8], condition: &[u8]) -> Checked
     requires { ⌜ (badAlphabet i o ≡ false) × (tooLong (now rule) ≡ false) × (tooLong (now condition) ≡ false) ⌝ }
-    ensures { λ r. ⌜ ((old : Buffers) → shortBuffers i o old ≡ false
-        → RuleChecked i o (now (rule .entry)) (now (condition .entry)) old (r .refusal) (r .mask)) ⌝ }
+    ensures { λ r. ⌜ RuleChecked i o (now (rule .entry)) (now (condition .entry)) (r .refusal) (r .mask) ⌝ }
 {
     let reading = check(rule, i as u8, o as u8, true);
     let Reading::Good(_) = reading else {
@@ -79,19 +69,9 @@ fn check_texts(i: usize, o: usize, rule: &[u8], condition: &[u8]) -> Checked
     }
 }
 
-// The refusals 1 to 8 in their order, or the condition's mask.
-fn check_rule(
-    i: usize,
-    o: usize,
-    rule: &[u8],
-    condition: &[u8],
-    transitions: &[u8],
-    accepting: &[u8],
-    system: &[u8],
-    environment: &[u8],
-) -> Checked
-    ensures { λ r. ⌜ RuleChecked i o (now (rule .entry)) (now (condition .entry))
-        (buffers (now (transitions .entry)) (now (accepting .entry)) (now (system .entry)) (now (environment .entry))) (r .refusal) (r .mask) ⌝ }
+// The refusals before the states are counted, 1, 2 and 4 to 8, in their order, or the condition's mask.
+fn check_rule(i: usize, o: usize, rule: &[u8], condition: &[u8]) -> Checked
+    ensures { λ r. ⌜ RuleChecked i o (now (rule .entry)) (now (condition .entry)) (r .refusal) (r .mask) ⌝ }
 {
     if bad_alphabet(i, o) {
         return Checked {
@@ -108,12 +88,6 @@ fn check_rule(
     if too_long(condition) {
         return Checked {
             refusal: Refusal::TextLength,
-            mask: 0,
-        };
-    }
-    if short_buffers(i, o, transitions, accepting, system, environment) {
-        return Checked {
-            refusal: Refusal::Buffer,
             mask: 0,
         };
     }
@@ -136,21 +110,13 @@ pub fn solve_rule(
         (buffers (now (transitions .entry)) (now (accepting .entry)) (now (system .entry)) (now (environment .entry)))
         (buffers (now (transitions .exit)) (now (accepting .exit)) (now (system .exit)) (now (environment .exit))) r ⌝ }
 {
-    let checked = check_rule(
-        i,
-        o,
-        rule,
-        condition,
-        transitions,
-        accepting,
-        system,
-        environment,
-    );
+    let checked = check_rule(i, o, rule, condition);
     let refusal = checked.refusal;
     let Refusal::Nothing = refusal else {
         return Answer::Refused(refusal);
     };
-    let built = construct(i, o, rule, transitions, accepting);
+    let room = table_room(i, system, environment);
+    let built = construct(i, o, rule, room, transitions, accepting);
     match built {
         Construction::Refused(x) => Answer::Refused(x),
         Construction::Built(n) => {

@@ -222,7 +222,7 @@ fn mixed_byte(
     system_byte(g, transitions, accepting, m, near, s, x)
 }
 
-// Fills the system's table, for as many states as the limit.
+// Fills the system's table.
 fn fill_system(
     g: Game,
     transitions: &[u8],
@@ -235,12 +235,12 @@ fn fill_system(
     requires { ⌜ Valid (arenaOf g (now transitions) (now accepting)) ⌝ }
     requires { ⌜ Ranked (arenaOf g (now transitions) (now accepting)) true (g .fair) m (now near) ⌝ }
     requires { ⌜ Ranked (arenaOf g (now transitions) (now accepting)) true (g .fair) (g .states) (now far) ⌝ }
-    requires { ⌜ (0 < g .inputs) × (stateLimit * g .inputs ≤ length (now system)) ⌝ }
+    requires { ⌜ (0 < g .inputs) × (g .states * g .inputs ≤ length (now system)) ⌝ }
     ensures { λ _. ⌜ SystemFilled (g .fair) (arenaOf g (now (transitions .entry)) (now (accepting .entry))) m (now (near .entry)) (now (far .entry))
         (now (system .entry)) (now (system .exit)) ⌝ }
 {
     let inputs = g.inputs;
-    let total = STATE_LIMIT * inputs;
+    let total = g.states * inputs;
     let mut k: usize = 0;
     while k < total {
         let s = k / inputs;
@@ -250,7 +250,7 @@ fn fill_system(
     }
 }
 
-// Fills the environment's table, for as many states as the limit.
+// Fills the environment's table.
 fn fill_environment(
     g: Game,
     transitions: &[u8],
@@ -260,12 +260,13 @@ fn fill_environment(
 )
     requires { ⌜ Valid (arenaOf g (now transitions) (now accepting)) ⌝ }
     requires { ⌜ Ranked (arenaOf g (now transitions) (now accepting)) false (not (g .fair)) (g .states) (now ranks) ⌝ }
-    requires { ⌜ stateLimit ≤ length (now environment) ⌝ }
+    requires { ⌜ g .states ≤ length (now environment) ⌝ }
     ensures { λ _. ⌜ EnvironmentFilled (g .fair) (arenaOf g (now (transitions .entry)) (now (accepting .entry))) (now (ranks .entry))
         (now (environment .entry)) (now (environment .exit)) ⌝ }
 {
+    let states = g.states;
     let mut s: usize = 0;
-    while s < STATE_LIMIT {
+    while s < states {
         environment[s] = environment_byte(g, transitions, accepting, ranks, s);
         s += 1;
     }
@@ -286,7 +287,7 @@ fn fill(
     requires { ⌜ Valid (arenaOf g (now transitions) (now accepting)) ⌝ }
     requires { ⌜ Ranked (arenaOf g (now transitions) (now accepting)) true (g .fair) m (now near) ⌝ }
     requires { ⌜ Ranking (g .fair) (arenaOf g (now transitions) (now accepting)) (now far) (now «environment_ranks») ⌝ }
-    requires { ⌜ (0 < g .inputs) × (stateLimit * g .inputs ≤ length (now system)) × (stateLimit ≤ length (now environment)) ⌝ }
+    requires { ⌜ (0 < g .inputs) × (g .states * g .inputs ≤ length (now system)) × (g .states ≤ length (now environment)) ⌝ }
     ensures { λ _. ⌜ SystemFilled (g .fair) (arenaOf g (now (transitions .entry)) (now (accepting .entry))) m (now (near .entry)) (now (far .entry))
         (now (system .entry)) (now (system .exit)) ⌝ }
     ensures { λ _. ⌜ EnvironmentFilled (g .fair) (arenaOf g (now (transitions .entry)) (now (accepting .entry))) (now («environment_ranks» .entry))
@@ -307,7 +308,7 @@ pub(crate) fn decide(
 ) -> usize
     requires { ⌜ Valid (arenaOf g (now transitions) (now accepting)) ⌝ }
     requires { ⌜ start < g .states ⌝ }
-    requires { ⌜ (0 < g .inputs) × (0 < g .outputs) × (stateLimit * g .inputs ≤ length (now system)) × (stateLimit ≤ length (now environment)) ⌝ }
+    requires { ⌜ (0 < g .inputs) × (0 < g .outputs) × (g .states * g .inputs ≤ length (now system)) × (g .states ≤ length (now environment)) ⌝ }
     ensures { λ r. ⌜ Tables (modeOf (g .fair)) (arenaOf g (now (transitions .entry)) (now (accepting .entry)))
         (now (system .entry)) (now (environment .entry)) (now (system .exit)) (now (environment .exit)) ⌝ }
     ensures { λ r. ⌜ Verdict (modeOf (g .fair)) (arenaOf g (now (transitions .entry)) (now (accepting .entry)))

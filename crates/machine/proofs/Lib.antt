@@ -3,5 +3,6 @@ pub mod DiscoveryLaws
 pub mod Reachable
 pub mod AutomatonLaws
 pub mod OneAutomaton
-pub mod ExplorationLaws
+pub mod ListingLaws
+pub mod FillingLaws
 pub mod Samples

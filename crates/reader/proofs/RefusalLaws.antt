@@ -27,7 +27,7 @@ pub refused-or-served : (x : Refusal) → (x ≡ Nothing) ⊎ (isNothing x ≡ f
 refused-or-served Nothing = _⊎_.inl refl
 refused-or-served Alphabet = _⊎_.inr refl
 refused-or-served TextLength = _⊎_.inr refl
-refused-or-served Buffer = _⊎_.inr refl
+refused-or-served (Buffer n) = _⊎_.inr refl
 refused-or-served (RuleText k) = _⊎_.inr refl
 refused-or-served RuleNodes = _⊎_.inr refl
 refused-or-served RuleOperators = _⊎_.inr refl

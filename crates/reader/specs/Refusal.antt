@@ -17,7 +17,7 @@ abbrev pub numberOf : Refusal → ℕ
 numberOf Nothing = 0
 numberOf Alphabet = 1
 numberOf TextLength = 2
-numberOf Buffer = 3
+numberOf (Buffer n) = 3
 numberOf (RuleText k) = 4
 numberOf RuleNodes = 5
 numberOf RuleOperators = 6
@@ -34,7 +34,7 @@ abbrev pub placeOf : Refusal → ℕ
 placeOf Nothing = 0
 placeOf Alphabet = 0
 placeOf TextLength = 0
-placeOf Buffer = 0
+placeOf (Buffer n) = 0
 placeOf (RuleText k) = k
 placeOf RuleNodes = 0
 placeOf RuleOperators = 0
@@ -45,6 +45,23 @@ placeOf GivenCount = 0
 placeOf (Move k) = k
 placeOf State = 0
 placeOf (Value k) = k
+
+-- the number of states that the buffers must have room for, which goes with 3; 0 for every other refusal
+abbrev pub neededOf : Refusal → ℕ
+neededOf Nothing = 0
+neededOf Alphabet = 0
+neededOf TextLength = 0
+neededOf (Buffer n) = n
+neededOf (RuleText k) = 0
+neededOf RuleNodes = 0
+neededOf RuleOperators = 0
+neededOf (ConditionText k) = 0
+neededOf ConditionNodes = 0
+neededOf StateCount = 0
+neededOf GivenCount = 0
+neededOf (Move k) = 0
+neededOf State = 0
+neededOf (Value k) = 0
 
 -- whether there is no refusal, so that the call is served
 abbrev pub isNothing : Refusal → Bool

@@ -1,7 +1,7 @@
 // The refusals of all calls.
 ghost use mathlib.Core.Path.{_≡_};
 ghost use Rattle.reader.specs.declared.refusal.Refusal.the-variants.{Nothing};
-ghost use Rattle.reader.specs.Refusal.{numberOf, placeOf, afterText};
+ghost use Rattle.reader.specs.Refusal.{numberOf, placeOf, neededOf, afterText};
 use crate::reading::Reading;
 
 // Why a call is refused. Nothing stands for no refusal.
@@ -9,7 +9,7 @@ pub enum Refusal {
     Nothing,
     Alphabet,
     TextLength,
-    Buffer,
+    Buffer(usize),
     RuleText(usize),
     RuleNodes,
     RuleOperators,
@@ -64,7 +64,7 @@ pub fn number_of(x: Refusal) -> u8
         Refusal::Nothing => 0,
         Refusal::Alphabet => 1,
         Refusal::TextLength => 2,
-        Refusal::Buffer => 3,
+        Refusal::Buffer(_) => 3,
         Refusal::RuleText(_) => 4,
         Refusal::RuleNodes => 5,
         Refusal::RuleOperators => 6,
@@ -86,7 +86,7 @@ pub fn place_of(x: Refusal) -> usize
         Refusal::Nothing => 0,
         Refusal::Alphabet => 0,
         Refusal::TextLength => 0,
-        Refusal::Buffer => 0,
+        Refusal::Buffer(_) => 0,
         Refusal::RuleText(k) => k,
         Refusal::RuleNodes => 0,
         Refusal::RuleOperators => 0,
@@ -97,5 +97,27 @@ pub fn place_of(x: Refusal) -> usize
         Refusal::Move(k) => k,
         Refusal::State => 0,
         Refusal::Value(k) => k,
+    }
+}
+
+// The number of states that a buffer which is too short must have room for, or 0 for every other refusal.
+pub fn needed_of(x: Refusal) -> usize
+    ensures { λ r. ⌜ r ≡ neededOf x ⌝ }
+{
+    match x {
+        Refusal::Nothing => 0,
+        Refusal::Alphabet => 0,
+        Refusal::TextLength => 0,
+        Refusal::Buffer(n) => n,
+        Refusal::RuleText(_) => 0,
+        Refusal::RuleNodes => 0,
+        Refusal::RuleOperators => 0,
+        Refusal::ConditionText(_) => 0,
+        Refusal::ConditionNodes => 0,
+        Refusal::StateCount => 0,
+        Refusal::GivenCount => 0,
+        Refusal::Move(_) => 0,
+        Refusal::State => 0,
+        Refusal::Value(_) => 0,
     }
 }

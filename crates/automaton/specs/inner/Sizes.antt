@@ -18,3 +18,7 @@ vectorLimit = 2 ^ coordinateLimit
 -- pairs of valuations that differ in coordinate 0 only, at most
 abbrev pub pairLimit : ℕ
 pairLimit = vectorLimit / 2
+
+-- slots for guesses of a state's place in the list
+abbrev pub slotCount : ℕ
+slotCount = 1021

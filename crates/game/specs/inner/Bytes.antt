@@ -4,8 +4,8 @@ use Prim.Native.Nat.{ℕ, _*_, _-_, _/_, _%_, _<_, _≤_}
 use mathlib.Core.Path.{_≡_}
 use mathlib.Core.Bool.{Bool, true, false, not}
 use mathlib.Core.List.{List}
-use lib.ListN.{length, getD}
-use Rattle.automaton.specs.Limits.{stateLimit}
+use lib.ListN.{getD}
+use Rattle.automaton.specs.Buffer.{Kept}
 use Rattle.plays.specs.Arena.{State, Input, Output, Arena, next}
 use Rattle.plays.specs.Entry.{Lowest}
 use Rattle.plays.specs.inner.Rank.{cap, Safe, AllowedOutput, AllowedInput}
@@ -73,12 +73,10 @@ pub record MixedByte (fair : Bool) (G : Arena) (m : ℕ) (near far : List ℕ) (
 
 -- the system's table in a buffer that held σ₀
 pub record SystemFilled (fair : Bool) (G : Arena) (m : ℕ) (near far σ₀ σ : List ℕ) : Type 0 where
-  pub byte : (k : ℕ) → k < stateLimit * G .inputs → MixedByte fair G m near far (k / G .inputs) (k % G .inputs) (getD σ k 0)
-  pub beyond : (k : ℕ) → stateLimit * G .inputs ≤ k → getD σ k 0 ≡ getD σ₀ k 0
-  pub size : length σ ≡ length σ₀
+  pub byte : (k : ℕ) → k < G .states * G .inputs → MixedByte fair G m near far (k / G .inputs) (k % G .inputs) (getD σ k 0)
+  pub kept : Kept (G .states * G .inputs) σ₀ σ
 
 -- the environment's table in a buffer that held τ₀
 pub record EnvironmentFilled (fair : Bool) (G : Arena) (r τ₀ τ : List ℕ) : Type 0 where
-  pub byte : (s : ℕ) → s < stateLimit → EnvironmentByte fair G r s (getD τ s 0)
-  pub beyond : (k : ℕ) → stateLimit ≤ k → getD τ k 0 ≡ getD τ₀ k 0
-  pub size : length τ ≡ length τ₀
+  pub byte : (s : ℕ) → s < G .states → EnvironmentByte fair G r s (getD τ s 0)
+  pub kept : Kept (G .states) τ₀ τ

@@ -14,14 +14,13 @@ use Rattle.reader.specs.Marks.{ruleKind, conditionKind}
 use Rattle.reader.specs.Reading.{ReadingOf, IsGood}
 use Rattle.automaton.specs.Alphabet.{badAlphabet}
 use Rattle.automaton.specs.Condition.{maskOf, Judges}
-use Rattle.game.specs.Rule.{Buffers, shortBuffers, ruleRefusal}
+use Rattle.game.specs.Rule.{Buffers, ruleRefusal}
 
--- every test before 9 is passed, and the mask is the condition's
-pub record TestsPassed (i o : ℕ) (rule condition : List ℕ) (old : Buffers) (reading condition-reading : Reading) (mask : ℕ) : Type 0 where
+-- every test before the states are counted is passed, and the mask is the condition's
+pub record TestsPassed (i o : ℕ) (rule condition : List ℕ) (reading condition-reading : Reading) (mask : ℕ) : Type 0 where
   pub alphabet : badAlphabet i o ≡ false
   pub rule-fits : tooLong rule ≡ false
   pub condition-fits : tooLong condition ≡ false
-  pub buffers-fit : shortBuffers i o old ≡ false
   pub rule-nodes : ℕ
   pub rule-good : reading ≡ Good rule-nodes
   pub condition-nodes : ℕ
@@ -31,12 +30,12 @@ pub record TestsPassed (i o : ℕ) (rule condition : List ℕ) (old : Buffers) (
   pub mask-is : mask ≡ maskOf assumption i
   pub judges : Judges assumption i (maskOf assumption i)
 
--- the refusal is the one that comes first, whatever the number of states, or every test is passed
-pub record RuleChecked (i o : ℕ) (rule condition : List ℕ) (old : Buffers) (refusal : Refusal) (mask : ℕ) : Type 0 where
+-- the refusal is the one that comes first, whatever the buffers and the number of states, or every test is passed
+pub record RuleChecked (i o : ℕ) (rule condition : List ℕ) (refusal : Refusal) (mask : ℕ) : Type 0 where
   pub reading : Reading
   pub read : ReadingOf i (ruleKind i o) rule reading
   pub condition-reading : Reading
   pub condition-read : ReadingOf i (conditionKind i) condition condition-reading
-  pub first : (refusal ≡ Nothing → ⊥) → (n : ℕ) → refusal ≡ ruleRefusal i o rule condition old reading condition-reading n
+  pub first : (refusal ≡ Nothing → ⊥) → (old : Buffers) (n : ℕ) → refusal ≡ ruleRefusal i o rule condition old reading condition-reading n
   pub not-count : refusal ≡ StateCount → ⊥
-  pub passed : refusal ≡ Nothing → TestsPassed i o rule condition old reading condition-reading mask
+  pub passed : refusal ≡ Nothing → TestsPassed i o rule condition reading condition-reading mask

@@ -21,5 +21,6 @@ pub mod CoordinateLaws
 pub mod LoopLaws
 pub mod AlphabetLaws
 pub mod CountOfLaws
+pub mod BufferLaws
 pub mod OneAutomaton
 pub mod OneAnswer

@@ -15,7 +15,7 @@ use lib.Seq.{ext-getD}
 use Rattle.automaton.specs.Limits.{stateLimit}
 use Rattle.reader.specs.declared.reading.Reading.{Reading}
 use Rattle.reader.specs.declared.refusal.Refusal.{Refusal}
-use Rattle.reader.specs.declared.refusal.Refusal.the-variants.{Nothing, Alphabet, TextLength, Buffer, StateCount}
+use Rattle.reader.specs.declared.refusal.Refusal.the-variants.{Nothing, Alphabet, TextLength}
 use Rattle.reader.specs.Limits.{tooLong}
 use Rattle.reader.specs.Formula.{Formula}
 use Rattle.reader.specs.Marks.{ruleKind}
@@ -27,7 +27,7 @@ use Rattle.automaton.specs.Alphabet.{badAlphabet, letterCount}
 use Rattle.automaton.specs.Construction.{CountOf}
 use Rattle.automaton.specs.Condition.{maskOf}
 use Rattle.automaton.proofs.CountOfLaws.{one-refusal}
-use Rattle.automaton.proofs.OneAutomaton.{one-automaton, one-refused}
+use Rattle.automaton.proofs.OneAutomaton.{one-automaton}
 use Rattle.plays.specs.declared.mode.Mode.{Mode}
 use Rattle.plays.specs.Arena.{Arena, arena}
 use Rattle.plays.specs.Strategy.{systemByte, environmentByte}
@@ -46,12 +46,13 @@ use Rattle.game.specs.declared.follow.Followed.{Followed}
 use Rattle.game.specs.Answer.{verdictOf}
 use Rattle.game.specs.Tables.{needLimit, SystemState, EnvironmentState, Tables, Verdict}
 use Rattle.game.specs.Given.{givenRefusal, GivenSolved}
-use Rattle.game.specs.Rule.{Buffers, shortBuffers, ruleRefusal, RuleSolved}
+use Rattle.game.specs.Rule.{Buffers, ruleRefusal, RuleSolved}
 use Rattle.game.specs.Follower.{FollowedBy}
 use Rattle.game.specs.Agreement.{GivenAgree, RuleAgree}
 use Rattle.game.proofs.IndexLaws.{next-below}
 use Rattle.game.proofs.GivenLaws.{accepted}
 use Rattle.game.proofs.RuleLaws.{automaton-closed}
+use Rattle.game.proofs.RuleCheckLaws.{sizeRefusal}
 
 -- ---- tables and verdict of one arena
 
@@ -156,13 +157,13 @@ one-given i o x y = given-agrees i o x y
 
 -- ---- the rule call
 
--- the rule's number of states does not matter
+-- the rule's number of states is one, so the refusal is
 one-count : (i o : ℕ) (rule condition : List ℕ) (old : Buffers) (ρ κ : Reading) (n m : ℕ) → ReadingOf i (ruleKind i o) rule ρ
     → CountOf i o rule n → CountOf i o rule m → ruleRefusal i o rule condition old ρ κ n ≡ ruleRefusal i o rule condition old ρ κ m
 unfolding ruleRefusal
 one-count i o rule condition old ρ κ n m r c d =
-    ap (λ (x : Refusal). cond (badAlphabet i o) Alphabet (cond (tooLong rule || tooLong condition) TextLength (cond (shortBuffers i o old) Buffer x)))
-    (one-refusal i o rule (λ k. afterCondition κ (cond (ltb stateLimit k) StateCount Nothing)) ρ n m r c d)
+    ap (λ (x : Refusal). cond (badAlphabet i o) Alphabet (cond (tooLong rule || tooLong condition) TextLength x))
+    (one-refusal i o rule (λ k. afterCondition κ (sizeRefusal i o old k)) ρ n m r c d)
 
 module _ {mode : Mode} {i o : ℕ} {rule condition : List ℕ} {old new new′ : Buffers} {r r′ : Answer}
     (x : RuleSolved mode i o rule condition old new r) (y : RuleSolved mode i o rule condition old new′ r′) where
@@ -175,21 +176,6 @@ module _ {mode : Mode} {i o : ℕ} {rule condition : List ℕ} {old new new′ :
       ∙ one-count i o rule condition old (y .reading) (y .condition-reading) (x .states) (y .states) (y .read) (x .counted) (y .counted)
       ∙ sym (y .first)
 
-  -- the automaton's two buffers, served or refused
-  same-automaton : (new .transitions ≡ new′ .transitions) × (new .accepting ≡ new′ .accepting)
-  same-automaton =
-      ⊎-elim
-      (λ n.
-      let u = x .served n .2 in
-      let v = y .served (sym same-refusal ∙ n) .2 in
-      one-automaton (letterCount i o) (pow-pos (i + o)) (u .formula) (v .formula) (one-formula i o true rule (u .good .reads) (v .good .reads))
-      (x .states) (y .states) (x .counted (u .formula) (u .good) ∙ sym (y .counted (u .formula) (u .good))) _ _ _ _ _ _
-      (u .automaton, u .transitions-rest, u .accepting-rest) (v .automaton, v .transitions-rest, v .accepting-rest))
-      (λ n.
-      let e = something (x .refusal) n in
-      one-refused i o rule (x .refusal) (y .refusal) same-refusal _ _ _ _ _ _ (x .over, x .untouched e) (y .over, y .untouched (λ z. e (same-refusal ∙ z))))
-      (refused-or-served (x .refusal))
-
   -- the arena of the first run's automaton
   abbrev of : ℕ → Formula → Arena
   of n κ = arena i o n (new .transitions) (new .accepting) (maskOf κ i)
@@ -198,42 +184,60 @@ module _ {mode : Mode} {i o : ℕ} {rule condition : List ℕ} {old new new′ :
   abbrev Left : Buffers → ℕ → Arena → Type 0
   Left b k G = Played mode 0 (old .system) (old .environment) (b .system) (b .environment) k G
 
-  -- the second run's, on the first run's arena
-  moved : (n m : ℕ) → m ≡ n → (κ χ : Formula) → χ ≡ κ → (k : ℕ)
-      → Left new′ k (arena i o m (new′ .transitions) (new′ .accepting) (maskOf χ i)) → Left new′ k (of n κ)
-  moved n m e κ χ f k p =
-      let g : arena i o m (new′ .transitions) (new′ .accepting) (maskOf χ i) ≡ of n κ = rw (e, f, same-automaton .0, same-automaton .1) refl in
-      subst (Left new′ k) g p
+  module _ (z : x .refusal ≡ Nothing) where
+    -- the automaton's two buffers
+    same-automaton : (new .transitions ≡ new′ .transitions) × (new .accepting ≡ new′ .accepting)
+    same-automaton =
+        let u = x .served z .2 in
+        let v = y .served (sym same-refusal ∙ z) .2 in
+        one-automaton (letterCount i o) (pow-pos (i + o)) (u .formula) (v .formula) (one-formula i o true rule (u .good .reads) (v .good .reads))
+        (x .states) (y .states) (x .counted (u .formula) (u .good) ∙ sym (y .counted (u .formula) (u .good))) _ _ _ _ _ _
+        (u .automaton, u .transitions-kept, u .accepting-kept) (v .automaton, v .transitions-kept, v .accepting-kept)
 
-  -- the same answer, and the same tables
-  abbrev Outcome : Type 0
-  Outcome = (r ≡ r′) × (new .system ≡ new′ .system) × (new .environment ≡ new′ .environment)
+    -- what the second run left, on the first run's arena
+    moved : (n m : ℕ) → m ≡ n → (κ χ : Formula) → χ ≡ κ → (k : ℕ)
+        → Left new′ k (arena i o m (new′ .transitions) (new′ .accepting) (maskOf χ i)) → Left new′ k (of n κ)
+    moved n m e κ χ f k p =
+        let g : arena i o m (new′ .transitions) (new′ .accepting) (maskOf χ i) ≡ of n κ = rw (e, f, same-automaton .0, same-automaton .1) refl in
+        subst (Left new′ k) g p
 
-  rule-served : x .refusal ≡ Nothing → Outcome
-  rule-served z =
-      let u = x .served z in
-      let v = y .served (sym same-refusal ∙ z) in
-      let s = u .2 in
-      let t = v .2 in
-      let κ = one-formula i 0 false condition (t .assumed .reads) (s .assumed .reads) in
-      let m : y .states ≡ x .states = y .counted (s .formula) (s .good) ∙ sym (x .counted (s .formula) (s .good)) in
-      let G = of (x .states) (s .assumption) in
-      let p : Left new (u .0) G = (s .tables, s .verdict) in
-      let q = moved (x .states) (y .states) m (s .assumption) (t .assumption) κ (v .0) (t .tables, t .verdict) in
-      let closed = automaton-closed (s .formula) i o (x .states) (new .transitions) (new .accepting) (maskOf (s .assumption) i) (s .automaton) in
-      let w = one-game mode G (pow-pos i) (pow-pos o) closed 0 _ _ _ _ _ _ (u .0) (v .0) p q in
-      (u .1 ∙ ap₂ verdictOf (sym m) (w .0) ∙ sym (v .1), w .1, w .2)
+    rule-served : RuleAgree new new′ r r′
+    rule-served =
+        let u = x .served z in
+        let v = y .served (sym same-refusal ∙ z) in
+        let s = u .2 in
+        let t = v .2 in
+        let κ = one-formula i 0 false condition (t .assumed .reads) (s .assumed .reads) in
+        let m : y .states ≡ x .states = y .counted (s .formula) (s .good) ∙ sym (x .counted (s .formula) (s .good)) in
+        let G = of (x .states) (s .assumption) in
+        let p : Left new (u .0) G = (s .tables, s .verdict) in
+        let q = moved (x .states) (y .states) m (s .assumption) (t .assumption) κ (v .0) (t .tables, t .verdict) in
+        let closed = automaton-closed (s .formula) i o (x .states) (new .transitions) (new .accepting) (maskOf (s .assumption) i) (s .automaton) in
+        let w = one-game mode G (pow-pos i) (pow-pos o) closed 0 _ _ _ _ _ _ (u .0) (v .0) p q in
+        record {
+          answer = u .1 ∙ ap₂ verdictOf (sym m) (w .0) ∙ sym (v .1);
+          transitions = same-automaton .0;
+          accepting = same-automaton .1;
+          system = w .1;
+          environment = w .2;
+        }
 
-  rule-refused : (x .refusal ≡ Nothing → ⊥) → Outcome
+  -- a refusal leaves the four buffers as they were
+  rule-refused : (x .refusal ≡ Nothing → ⊥) → RuleAgree new new′ r r′
   rule-refused z =
       let u = x .refused z in
       let v = y .refused (λ e. z (same-refusal ∙ e)) in
-      (u .0 ∙ ap Refused same-refusal ∙ sym (v .0), u .1 ∙ sym (v .1), u .2 ∙ sym (v .2))
+      let same : new ≡ new′ = u .1 ∙ sym (v .1) in
+      record {
+        answer = u .0 ∙ ap Refused same-refusal ∙ sym (v .0);
+        transitions = ap (λ (b : Buffers). b .transitions) same;
+        accepting = ap (λ (b : Buffers). b .accepting) same;
+        system = ap (λ (b : Buffers). b .system) same;
+        environment = ap (λ (b : Buffers). b .environment) same;
+      }
 
   rule-agrees : RuleAgree new new′ r r′
-  rule-agrees =
-      let w = ⊎-elim rule-served (λ n. rule-refused (something (x .refusal) n)) (refused-or-served (x .refusal)) in
-      record { answer = w .0; transitions = same-automaton .0; accepting = same-automaton .1; system = w .1; environment = w .2 }
+  rule-agrees = ⊎-elim rule-served (λ n. rule-refused (something (x .refusal) n)) (refused-or-served (x .refusal))
 
 -- two runs of the rule call agree
 pub one-rule : {mode : Mode} {i o : ℕ} {rule condition : List ℕ} {old new new′ : Buffers} {r r′ : Answer}

@@ -1,14 +1,14 @@
--- The rule call's tests before 9 (specs/inner/RuleChecks.antt), by the test that decided.
+-- The rule call's tests before the states are counted (specs/inner/RuleChecks.antt), by the test that decided; and the room for states in the tables.
 -- Assumes nothing.
-use Prim.Native.Nat.{ℕ, _*_, _^_, _<_, _≤_}
-use mathlib.Core.Path.{_≡_, refl, sym, ap, _∙_, subst}
-use mathlib.Core.Bool.{Bool, true, false, cond}
+use Prim.Native.Nat.{ℕ, _*_, _/_, _<_, min}
+use mathlib.Core.Path.{_≡_, refl, sym, ap, _∙_}
+use mathlib.Core.Bool.{Bool, true, false, cond, _||_}
 use mathlib.Core.List.{List}
 use mathlib.Core.Logic.{_⊎_, ⊎-elim}
+use native.Mathlib.Nat.{div-lt-iff-lt-mul}
 use native.Mathlib.Omega.{arith}
 use lib.Dec.{ltb}
-use lib.ListN.{length}
-use borrow.Author.Tests.{le-ltb, lt-ltb}
+use borrow.Author.Tests.{le-ltb, lt-ltb, ltb-true, ltb-false}
 use Rattle.reader.specs.declared.reading.Reading.{Reading}
 use Rattle.reader.specs.declared.reading.Reading.the-variants.{Good, TooLong, Bad, TooManyNodes, TooManyOperators}
 use Rattle.reader.specs.declared.refusal.Refusal.{Refusal}
@@ -18,12 +18,12 @@ use Rattle.reader.specs.Formula.{Formula}
 use Rattle.reader.specs.Marks.{ruleKind, conditionKind}
 use Rattle.reader.specs.Reading.{ReadingOf, IsGood}
 use Rattle.reader.specs.Refusal.{isNothing, afterRule, afterCondition}
-use Rattle.reader.proofs.BoolLaws.{or-true}
+use Rattle.reader.proofs.BoolLaws.{on, or-true}
 use Rattle.reader.proofs.RefusalLaws.{differs, something, refused-or-served, NotGood, rule-refused, condition-refused}
 use Rattle.reader.proofs.Unambiguous.{some-reading}
 use Rattle.automaton.specs.declared.condition.Assumption.the-variants.{Mask, Refused}
 use Rattle.automaton.specs.Limits.{stateLimit}
-use Rattle.automaton.specs.Alphabet.{badAlphabet, letterCount}
+use Rattle.automaton.specs.Alphabet.{badAlphabet}
 use Rattle.automaton.specs.Condition.{Judges, maskOf, conditionRefusal, Conditioned}
 use Rattle.automaton.proofs.AlphabetLaws.{inputs-fit}
 use Rattle.game.specs.Rule.{Buffers, shortBuffers, ruleRefusal}
@@ -97,110 +97,100 @@ with-mask i o condition mask a b c =
 
 -- ---- the tests in their order
 
-module _ (i o : ℕ) (rule condition : List ℕ) (old : Buffers) (mask : ℕ) where
+-- what comes after the texts, by the number of states
+abbrev pub sizeRefusal : (i o : ℕ) (old : Buffers) (n : ℕ) → Refusal
+sizeRefusal i o old n = cond (ltb stateLimit n) StateCount (cond (shortBuffers i o n old) (Buffer n) Nothing)
+
+module _ (i o : ℕ) (rule condition : List ℕ) (mask : ℕ) where
   refused : (ρ : Reading) → ReadingOf i (ruleKind i o) rule ρ → (κ : Reading) → ReadingOf i (conditionKind i) condition κ → (x : Refusal) → isNothing x ≡ false
       → (x ≡ StateCount → ⊥)
-      → ((n : ℕ) → x ≡ ruleRefusal i o rule condition old ρ κ n) → RuleChecked i o rule condition old x mask
+      → ((old : Buffers) (n : ℕ) → x ≡ ruleRefusal i o rule condition old ρ κ n) → RuleChecked i o rule condition x mask
   refused ρ r κ k x s d e =
       record { reading = ρ; read = r; condition-reading = κ; condition-read = k; first = λ _. e; not-count = d; passed = λ z. absurd (something x s z) }
 
-  unread : (x : Refusal) → isNothing x ≡ false → (x ≡ StateCount → ⊥) → ((ρ κ : Reading) (n : ℕ) → x ≡ ruleRefusal i o rule condition old ρ κ n)
-      → RuleChecked i o rule condition old x mask
+  unread : (x : Refusal) → isNothing x ≡ false → (x ≡ StateCount → ⊥)
+      → ((ρ κ : Reading) (old : Buffers) (n : ℕ) → x ≡ ruleRefusal i o rule condition old ρ κ n) → RuleChecked i o rule condition x mask
   unread x s d e =
       let r = some-reading i o true rule in
       let k = some-reading i 0 false condition in
       refused (r .0) (r .1) (k .0) (k .1) x s d (e (r .0) (k .0))
 
-  pub by-alphabet : badAlphabet i o ≡ true → RuleChecked i o rule condition old Alphabet mask
+  pub by-alphabet : badAlphabet i o ≡ true → RuleChecked i o rule condition Alphabet mask
   unfolding ruleRefusal
-  by-alphabet a = unread Alphabet refl (differs Alphabet StateCount (λ e. omega arith)) (λ ρ κ n. rw a)
+  by-alphabet a = unread Alphabet refl (differs Alphabet StateCount (λ e. omega arith)) (λ ρ κ old n. rw a)
 
   module _ (a : badAlphabet i o ≡ false) where
-    pub by-rule-length : tooLong rule ≡ true → RuleChecked i o rule condition old TextLength mask
+    pub by-rule-length : tooLong rule ≡ true → RuleChecked i o rule condition TextLength mask
     unfolding ruleRefusal
-    by-rule-length b = unread TextLength refl (differs TextLength StateCount (λ e. omega arith)) (λ ρ κ n. rw (a, b))
+    by-rule-length b = unread TextLength refl (differs TextLength StateCount (λ e. omega arith)) (λ ρ κ old n. rw (a, b))
 
-    pub by-condition-length : tooLong condition ≡ true → RuleChecked i o rule condition old TextLength mask
+    pub by-condition-length : tooLong condition ≡ true → RuleChecked i o rule condition TextLength mask
     unfolding ruleRefusal
-    by-condition-length b = unread TextLength refl (differs TextLength StateCount (λ e. omega arith)) (λ ρ κ n. rw (a, b, or-true))
+    by-condition-length b = unread TextLength refl (differs TextLength StateCount (λ e. omega arith)) (λ ρ κ old n. rw (a, b, or-true))
 
     module _ (b : tooLong rule ≡ false) (c : tooLong condition ≡ false) where
-      pub by-buffer : shortBuffers i o old ≡ true → RuleChecked i o rule condition old Buffer mask
+      pub by-rule : (ρ : Reading) → ReadingOf i (ruleKind i o) rule ρ → NotGood ρ → (x : Refusal) → x ≡ afterRule ρ Nothing
+          → RuleChecked i o rule condition x mask
       unfolding ruleRefusal
-      by-buffer d = unread Buffer refl (differs Buffer StateCount (λ e. omega arith)) (λ ρ κ n. rw (a, b, c, d))
+      by-rule ρ r g x e =
+          let f = rule-refused ρ g in
+          let k = some-reading i 0 false condition in
+          refused ρ r (k .0) (k .1) x (ap isNothing e ∙ f .is-refused) (λ z. f .not-count (sym e ∙ z))
+          (λ old n. rw (a, b, c) (e ∙ sym (f .first (afterCondition (k .0) (sizeRefusal i o old n)))))
 
-      module _ (d : shortBuffers i o old ≡ false) where
-        pub by-rule : (ρ : Reading) → ReadingOf i (ruleKind i o) rule ρ → NotGood ρ → (x : Refusal) → x ≡ afterRule ρ Nothing
-            → RuleChecked i o rule condition old x mask
-        unfolding ruleRefusal
-        by-rule ρ r g x e =
-            let f = rule-refused ρ g in
-            let k = some-reading i 0 false condition in
-            refused ρ r (k .0) (k .1) x (ap isNothing e ∙ f .is-refused) (λ z. f .not-count (sym e ∙ z))
-            (λ n. rw (a, b, c, d) (e ∙ sym (f .first (afterCondition (k .0) (cond (ltb stateLimit n) StateCount Nothing)))))
+      pub by-condition : (m : ℕ) → ReadingOf i (ruleKind i o) rule (Good m) → (x : Refusal) → Conditioned i condition (Refused x)
+          → RuleChecked i o rule condition x mask
+      unfolding ruleRefusal
+      by-condition m r x v =
+          let w = by-itself i o condition x a c v in
+          let f = condition-refused (w .reading) (not-good-reading (w .reading) (sym (ap isNothing (w .is)) ∙ w .is-refused)) in
+          refused (Good m) r (w .reading) (w .read) x (w .is-refused) (λ z. f .not-count (sym (w .is) ∙ z))
+          (λ old n. rw (a, b, c) (w .is ∙ sym (f .first (sizeRefusal i o old n))))
 
-        pub by-condition : (m : ℕ) → ReadingOf i (ruleKind i o) rule (Good m) → (x : Refusal) → Conditioned i condition (Refused x)
-            → RuleChecked i o rule condition old x mask
-        unfolding ruleRefusal
-        by-condition m r x v =
-            let w = by-itself i o condition x a c v in
-            let f = condition-refused (w .reading) (not-good-reading (w .reading) (sym (ap isNothing (w .is)) ∙ w .is-refused)) in
-            refused (Good m) r (w .reading) (w .read) x (w .is-refused) (λ z. f .not-count (sym (w .is) ∙ z))
-            (λ n. rw (a, b, c, d) (w .is ∙ sym (f .first (cond (ltb stateLimit n) StateCount Nothing))))
+      pub by-none : (m : ℕ) → ReadingOf i (ruleKind i o) rule (Good m) → Conditioned i condition (Mask mask) → RuleChecked i o rule condition Nothing mask
+      by-none m r v =
+          let w = with-mask i o condition mask a c v in
+          record {
+            reading = Good m;
+            read = r;
+            condition-reading = w .reading;
+            condition-read = w .read;
+            first = λ z. absurd (z refl);
+            not-count = differs Nothing StateCount (λ e. omega arith);
+            passed = λ _. record {
+              alphabet = a;
+              rule-fits = b;
+              condition-fits = c;
+              rule-nodes = m;
+              rule-good = refl;
+              condition-nodes = w .nodes;
+              condition-good = w .good;
+              assumption = w .assumption;
+              assumed = w .assumed;
+              mask-is = w .mask-is;
+              judges = w .judges;
+            };
+          }
 
-        pub by-none : (m : ℕ) → ReadingOf i (ruleKind i o) rule (Good m) → Conditioned i condition (Mask mask) → RuleChecked i o rule condition old Nothing mask
-        by-none m r v =
-            let w = with-mask i o condition mask a c v in
-            record {
-              reading = Good m;
-              read = r;
-              condition-reading = w .reading;
-              condition-read = w .read;
-              first = λ z. absurd (z refl);
-              not-count = differs Nothing StateCount (λ e. omega arith);
-              passed = λ _. record {
-                alphabet = a;
-                rule-fits = b;
-                condition-fits = c;
-                buffers-fit = d;
-                rule-nodes = m;
-                rule-good = refl;
-                condition-nodes = w .nodes;
-                condition-good = w .good;
-                assumption = w .assumption;
-                assumed = w .assumed;
-                mask-is = w .mask-is;
-                judges = w .judges;
-              };
-            }
+-- ---- the room for states in the two tables
 
--- ---- the test of the four buffers, one after the other
+-- whole rows of P bytes are too few for n states exactly when the bytes are
+rows-short : (σ P n : ℕ) → 0 < P → ltb (σ / P) n ≡ ltb σ (n * P)
+rows-short σ P n pos =
+    on (ltb (σ / P) n)
+    (λ t. t ∙ sym (lt-ltb σ (n * P) (div-lt-iff-lt-mul pos .0 (ltb-true (σ / P) n t))))
+    (λ f. f ∙ sym (le-ltb σ (n * P) (on (ltb σ (n * P))
+    (λ t. absurd (let l : σ / P < n = div-lt-iff-lt-mul pos .1 (ltb-true σ (n * P) t) in let h = ltb-false (σ / P) n f in let z : ⊥ = omega arith in z))
+    (λ g. ltb-false σ (n * P) g))))
 
-module _ (i o : ℕ) (old : Buffers) (L : ℕ) (e : L ≡ letterCount i o) where
-  pub transitions-short : length (old .transitions) < stateLimit * L → true ≡ shortBuffers i o old
-  transitions-short h =
-      rw (lt-ltb (length (old .transitions)) (stateLimit * letterCount i o) (subst (λ (M : ℕ). length (old .transitions) < stateLimit * M) e h))
+-- the smaller of two numbers is too small exactly when one of them is
+smaller-short : (a b r n : ℕ) → r ≡ min a b → ltb r n ≡ (ltb a n || ltb b n)
+smaller-short a b r n e =
+    on (ltb a n)
+    (λ t. rw t (lt-ltb r n (let l = ltb-true a n t in omega arith)))
+    (λ f. rw f (on (ltb b n)
+    (λ t. lt-ltb r n (let l = ltb-true b n t in omega arith) ∙ sym t)
+    (λ g. le-ltb r n (let h = ltb-false a n f in let k = ltb-false b n g in omega arith) ∙ sym g)))
 
-  module _ (t : stateLimit * L ≤ length (old .transitions)) where
-    t′ : ltb (length (old .transitions)) (stateLimit * letterCount i o) ≡ false
-    t′ = le-ltb (length (old .transitions)) (stateLimit * letterCount i o) (subst (λ (M : ℕ). stateLimit * M ≤ length (old .transitions)) e t)
-
-    pub accepting-short : length (old .accepting) < stateLimit → true ≡ shortBuffers i o old
-    accepting-short h = rw (t′, lt-ltb (length (old .accepting)) stateLimit h)
-
-    module _ (a : stateLimit ≤ length (old .accepting)) (P : ℕ) (p : P ≡ 2 ^ i) where
-      pub system-short : length (old .system) < stateLimit * P → true ≡ shortBuffers i o old
-      system-short h =
-          rw (
-            t′,
-            le-ltb (length (old .accepting)) stateLimit a,
-            lt-ltb (length (old .system)) (stateLimit * 2 ^ i) (subst (λ (M : ℕ). length (old .system) < stateLimit * M) p h),
-          )
-
-      pub environment-short : stateLimit * P ≤ length (old .system) → ltb (length (old .environment)) stateLimit ≡ shortBuffers i o old
-      environment-short h =
-          rw (
-            t′,
-            le-ltb (length (old .accepting)) stateLimit a,
-            le-ltb (length (old .system)) (stateLimit * 2 ^ i) (subst (λ (M : ℕ). stateLimit * M ≤ length (old .system)) p h),
-          )
+pub room-short : (σ τ P r : ℕ) → 0 < P → r ≡ min (σ / P) τ → (n : ℕ) → ltb r n ≡ (ltb σ (n * P) || ltb τ n)
+room-short σ τ P r pos e n = smaller-short (σ / P) τ r n e ∙ ap (λ (b : Bool). b || ltb τ n) (rows-short σ P n pos)

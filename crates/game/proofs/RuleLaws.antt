@@ -130,7 +130,7 @@ module _ (φ : Formula) (i o n : ℕ) (transitions flags : List ℕ) (mask : ℕ
   automaton-closed s x y hs hx hy = on-product .moved s (letterOf (2 ^ i) x y) hs (letter-below (2 ^ i) (2 ^ o) x y hx hy) .0
 
   -- the solver may be given this arena
-  pub automaton-valid : badAlphabet i o ≡ false → n ≤ stateLimit → stateLimit * letterCount i o ≤ length transitions → stateLimit ≤ length flags → Valid G
+  pub automaton-valid : badAlphabet i o ≡ false → n ≤ stateLimit → n * letterCount i o ≤ length transitions → n ≤ length flags → Valid G
   automaton-valid a few long wide =
       let L = 2 ^ i * 2 ^ o in
       let positive : 0 < L = mul-pos (pow-pos i) (pow-pos o) in
@@ -139,11 +139,11 @@ module _ (φ : Formula) (i o n : ℕ) (transitions flags : List ℕ) (mask : ℕ
           states-fit = few;
           inputs-fit = small-power i (inputs-fit i o a);
           outputs-fit = small-power o (outputs-fit i o a);
-          long = omega (arith, mul-le-mul-right L few, ap (λ (m : ℕ). stateLimit * m) (pow-add 2 i o));
+          long = omega (arith, ap (λ (m : ℕ). n * m) (pow-add 2 i o));
           closed = λ k h. subst (λ (j : ℕ). getD transitions j 0 < n) (div-add-mod' k L)
               (on-product .moved (k / L) (k % L) (div-lt-iff-lt-mul positive .1 h) (mod-lt k positive) .0);
         };
-        accepting-long = omega arith;
+        accepting-long = wide;
       }
 
   pub can-keep : (mode : Mode) (r : ℕ) (σ : List ℕ) → SystemWins mode G r σ 0 → Can mode φ G r σ

@@ -42,7 +42,7 @@ number-small : (x : Refusal) → numberOf x ≤ 14
 number-small Nothing = omega arith
 number-small Alphabet = omega arith
 number-small TextLength = omega arith
-number-small Buffer = omega arith
+number-small (Buffer n) = omega arith
 number-small (RuleText k) = omega arith
 number-small RuleNodes = omega arith
 number-small RuleOperators = omega arith
@@ -61,21 +61,21 @@ place-within i kind text ρ h k e =
     let p : ReadingOf i kind text (Bad k) = subst (λ (x : Reading). ReadingOf i kind text x) e h in
     omega (arith, p .0, p .1 .within)
 
-place-small : (a b c d : Bool) (ρ κ : Reading) → ((k : ℕ) → ρ ≡ Bad k → k ≤ textLimit) → ((k : ℕ) → κ ≡ Bad k → k ≤ textLimit)
-    → placeOf (cond a Alphabet (cond b TextLength (cond c Buffer (afterRule ρ (afterCondition κ (cond d StateCount Nothing)))))) ≤ textLimit
-place-small true b c d ρ κ f g = omega arith
-place-small false true c d ρ κ f g = omega arith
-place-small false false true d ρ κ f g = omega arith
-place-small false false false true (Good n) (Good m) f g = omega arith
-place-small false false false false (Good n) (Good m) f g = omega arith
-place-small false false false d (Good n) TooLong f g = omega arith
-place-small false false false d (Good n) (Bad k) f g = g k refl
-place-small false false false d (Good n) TooManyNodes f g = omega arith
-place-small false false false d (Good n) TooManyOperators f g = omega arith
-place-small false false false d TooLong κ f g = omega arith
-place-small false false false d (Bad k) κ f g = f k refl
-place-small false false false d TooManyNodes κ f g = omega arith
-place-small false false false d TooManyOperators κ f g = omega arith
+place-small : (a b c d : Bool) (n : ℕ) (ρ κ : Reading) → ((k : ℕ) → ρ ≡ Bad k → k ≤ textLimit) → ((k : ℕ) → κ ≡ Bad k → k ≤ textLimit)
+    → placeOf (cond a Alphabet (cond b TextLength (afterRule ρ (afterCondition κ (cond c StateCount (cond d (Buffer n) Nothing)))))) ≤ textLimit
+place-small true b c d n ρ κ f g = omega arith
+place-small false true c d n ρ κ f g = omega arith
+place-small false false true d n (Good l) (Good m) f g = omega arith
+place-small false false false true n (Good l) (Good m) f g = omega arith
+place-small false false false false n (Good l) (Good m) f g = omega arith
+place-small false false c d n (Good l) TooLong f g = omega arith
+place-small false false c d n (Good l) (Bad k) f g = g k refl
+place-small false false c d n (Good l) TooManyNodes f g = omega arith
+place-small false false c d n (Good l) TooManyOperators f g = omega arith
+place-small false false c d n TooLong κ f g = omega arith
+place-small false false c d n (Bad k) κ f g = f k refl
+place-small false false c d n TooManyNodes κ f g = omega arith
+place-small false false c d n TooManyOperators κ f g = omega arith
 
 alphabet-served : (a : Bool) (x : Refusal) → numberOf (cond a Alphabet x) ≡ 0 → a ≡ false
 alphabet-served true x e = absurd (omega arith)
@@ -86,7 +86,8 @@ module _ {mode : Mode} {i o : ℕ} {rule condition : List ℕ} {old new : Buffer
   unfolding ruleRefusal
   refusal-place =
       subst (λ (x : Refusal). placeOf x ≤ textLimit) (sym (m .first))
-      (place-small (badAlphabet i o) (tooLong rule || tooLong condition) (shortBuffers i o old) (ltb stateLimit (m .states)) (m .reading) (m .condition-reading)
+      (place-small (badAlphabet i o) (tooLong rule || tooLong condition) (ltb stateLimit (m .states)) (shortBuffers i o (m .states) old) (m .states)
+      (m .reading) (m .condition-reading)
       (place-within i _ rule (m .reading) (m .read))
       (place-within i _ condition (m .condition-reading) (m .condition-read)))
 

@@ -16,7 +16,7 @@ use Rattle.reader.specs.declared.refusal.Refusal.{Refusal}
 use Rattle.reader.specs.declared.refusal.Refusal.the-variants.{Nothing, Alphabet, TextLength, Buffer, RuleText, RuleNodes, RuleOperators}
 use Rattle.reader.specs.declared.refusal.Refusal.the-variants.{ConditionText, ConditionNodes, StateCount, GivenCount, Move, State, Value}
 use Rattle.reader.specs.Limits.{tooLong}
-use Rattle.reader.specs.Refusal.{numberOf, afterRule, afterCondition}
+use Rattle.reader.specs.Refusal.{numberOf, neededOf, afterRule, afterCondition}
 use Rattle.reader.proofs.BoolLaws.{on, clash}
 use Rattle.automaton.specs.Alphabet.{badAlphabet}
 use Rattle.automaton.specs.Limits.{stateLimit}
@@ -38,7 +38,7 @@ pub no-number : (x : Refusal) → numberOf x ≡ 0 → x ≡ Nothing
 no-number Nothing e = refl
 no-number Alphabet e = absurd (omega arith)
 no-number TextLength e = absurd (omega arith)
-no-number Buffer e = absurd (omega arith)
+no-number (Buffer n) e = absurd (omega arith)
 no-number (RuleText k) e = absurd (omega arith)
 no-number RuleNodes e = absurd (omega arith)
 no-number RuleOperators e = absurd (omega arith)
@@ -50,22 +50,35 @@ no-number (Move k) e = absurd (omega arith)
 no-number State e = absurd (omega arith)
 no-number (Value k) e = absurd (omega arith)
 
--- too many states are refused, whatever comes before
-over-refused :
-    (a b c : Bool) (ρ κ : Reading) → numberOf (cond a Alphabet (cond b TextLength (cond c Buffer (afterRule ρ (afterCondition κ StateCount))))) ≡ 0
-    → ⊥
-over-refused true b c ρ κ e = omega arith
-over-refused false true c ρ κ e = omega arith
-over-refused false false true ρ κ e = omega arith
-over-refused false false false (Good n) (Good m) e = omega arith
-over-refused false false false (Good n) TooLong e = omega arith
-over-refused false false false (Good n) (Bad m) e = omega arith
-over-refused false false false (Good n) TooManyNodes e = omega arith
-over-refused false false false (Good n) TooManyOperators e = omega arith
-over-refused false false false TooLong κ e = omega arith
-over-refused false false false (Bad k) κ e = omega arith
-over-refused false false false TooManyNodes κ e = omega arith
-over-refused false false false TooManyOperators κ e = omega arith
+-- too many states are refused, whatever comes before, and no refusal needs room for more states than the limit
+over-refused : (a b : Bool) (ρ κ : Reading) → numberOf (cond a Alphabet (cond b TextLength (afterRule ρ (afterCondition κ StateCount)))) ≡ 0 → ⊥
+over-refused true b ρ κ e = omega arith
+over-refused false true ρ κ e = omega arith
+over-refused false false (Good n) (Good m) e = omega arith
+over-refused false false (Good n) TooLong e = omega arith
+over-refused false false (Good n) (Bad m) e = omega arith
+over-refused false false (Good n) TooManyNodes e = omega arith
+over-refused false false (Good n) TooManyOperators e = omega arith
+over-refused false false TooLong κ e = omega arith
+over-refused false false (Bad k) κ e = omega arith
+over-refused false false TooManyNodes κ e = omega arith
+over-refused false false TooManyOperators κ e = omega arith
+
+needed-small : (a b c d : Bool) (n : ℕ) (ρ κ : Reading) → (c ≡ false → n ≤ stateLimit)
+    → neededOf (cond a Alphabet (cond b TextLength (afterRule ρ (afterCondition κ (cond c StateCount (cond d (Buffer n) Nothing)))))) ≤ stateLimit
+needed-small true b c d n ρ κ h = omega arith
+needed-small false true c d n ρ κ h = omega arith
+needed-small false false true d n (Good l) (Good m) h = omega arith
+needed-small false false false true n (Good l) (Good m) h = h refl
+needed-small false false false false n (Good l) (Good m) h = omega arith
+needed-small false false c d n (Good l) TooLong h = omega arith
+needed-small false false c d n (Good l) (Bad k) h = omega arith
+needed-small false false c d n (Good l) TooManyNodes h = omega arith
+needed-small false false c d n (Good l) TooManyOperators h = omega arith
+needed-small false false c d n TooLong κ h = omega arith
+needed-small false false c d n (Bad k) κ h = omega arith
+needed-small false false c d n TooManyNodes κ h = omega arith
+needed-small false false c d n TooManyOperators κ h = omega arith
 
 pub served-states :
     (i o : ℕ) (rule condition : List ℕ) (old : Buffers) (ρ κ : Reading) (n : ℕ) → numberOf (ruleRefusal i o rule condition old ρ κ n) ≡ 0
@@ -73,7 +86,7 @@ pub served-states :
 unfolding ruleRefusal
 served-states i o rule condition old ρ κ n e =
     on (ltb stateLimit n)
-    (λ t. absurd (over-refused (badAlphabet i o) (tooLong rule || tooLong condition) (shortBuffers i o old) ρ κ (rw t at e)))
+    (λ t. absurd (over-refused (badAlphabet i o) (tooLong rule || tooLong condition) ρ κ (rw t at e)))
     (λ f. ltb-false stateLimit n f)
 
 -- a call is served, or its answer is the refusal
@@ -87,6 +100,7 @@ served-or-refused m =
 -- an answer has no more states than the limit
 pub solved-states : {mode : Mode} {i o : ℕ} {rule condition : List ℕ} {old new : Buffers} {r : Answer} → RuleSolved mode i o rule condition old new r
     → answerStates r ≤ stateLimit
+unfolding ruleRefusal
 solved-states {mode} {i} {o} {rule} {condition} {old} {new} {r} m =
     ⊎-elim
     (λ z.
@@ -94,7 +108,10 @@ solved-states {mode} {i} {o} {rule} {condition} {old} {new} {r} m =
     let e : answerStates r ≡ m .states = ap answerStates (v .1) ∙ verdict-states (m .states) (v .0) in
     let h = served-states i o rule condition old (m .reading) (m .condition-reading) (m .states) (ap numberOf (sym (m .first) ∙ z)) in
     subst (λ (k : ℕ). k ≤ stateLimit) (sym e) h)
-    (λ e. subst (λ (k : ℕ). k ≤ stateLimit) (sym (ap answerStates e)) (omega arith))
+    (λ e.
+    subst (λ (k : ℕ). k ≤ stateLimit) (sym (ap answerStates e ∙ ap neededOf (m .first)))
+    (needed-small (badAlphabet i o) (tooLong rule || tooLong condition) (ltb stateLimit (m .states)) (shortBuffers i o (m .states) old) (m .states)
+    (m .reading) (m .condition-reading) (ltb-false stateLimit (m .states))))
     (served-or-refused m)
 
 -- the transitions are not listed

@@ -42,7 +42,7 @@ pub record Held (r : Row) (φ κ : Formula) (old new : Buffers) (k : ℕ) : Type
   pub round :
       RoundNumber (r .mode) (arenaFor r (new .transitions) (new .accepting) mask) (Satisfied φ (arenaFor r (new .transitions) (new .accepting) mask)) k
 
-module _ (r : Row) (reading : RowHolds r) (old new : Buffers) (answer : Answer) (long : shortBuffers (r .inputs) (r .outputs) old ≡ false)
+module _ (r : Row) (reading : RowHolds r) (old new : Buffers) (answer : Answer) (long : shortBuffers (r .inputs) (r .outputs) (r .count) old ≡ false)
     (solved : SolvedFor r old new answer) where
   abbrev i : ℕ
   i = r .inputs
@@ -62,7 +62,7 @@ module _ (r : Row) (reading : RowHolds r) (old new : Buffers) (answer : Answer) 
       let f =
       one-reading i 0 false (r .condition) (solved .condition-read)
       (good-reading i (conditionKind i) (r .condition) (reading .assumption) (reading .assumed)) in
-      solved .first ∙ rw (reading .small, reading .short, long, e, f, same-count, le-ltb stateLimit (r .count) (reading .few))
+      solved .first ∙ rw (reading .small, reading .short, e, f, same-count, le-ltb stateLimit (r .count) (reading .few), long)
 
   held : (k : ℕ) → RuleServed (r .mode) i o (r .rule) (r .condition) old new (solved .states) k
       → Held r (reading .formula) (reading .assumption) old new k

@@ -147,7 +147,7 @@ module _ (old new : Buffers) (h : Held example φ κ old new 0) where
       ) refl
 
 -- the buffers that are lent are long enough
-long-enough : shortBuffers 1 0 lent ≡ false
+long-enough : shortBuffers 1 0 3 lent ≡ false
 unfolding lent
 long-enough = refl
 

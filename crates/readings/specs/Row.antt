@@ -79,11 +79,11 @@ pub record RowHolds (r : Row) : Type 0 where
 abbrev pub SolvedFor : (r : Row) (old new : Buffers) (answer : Answer) → Type 0
 SolvedFor r old new answer = RuleSolved (r .mode) (r .inputs) (r .outputs) (r .rule) (r .condition) old new answer
 
--- what that promise makes of the row: in buffers that are long enough it answers with this verdict, this n and this round number
+-- what that promise makes of the row: in buffers that are long enough for n states it answers with this verdict, this n and this round number
 abbrev pub Answered : Row → Type 0
 Answered r =
     (old new : Buffers) (answer : Answer)
-    → shortBuffers (r .inputs) (r .outputs) old ≡ false
+    → shortBuffers (r .inputs) (r .outputs) (r .count) old ≡ false
     → SolvedFor r old new answer
     → answer ≡ verdictOf (r .count) (r .round)
 

@@ -6,13 +6,9 @@ use mathlib.Core.Bool.{false}
 use denote.Ref.{now}
 use Rattle.reader.specs.Limits.{tooLong}
 use Rattle.automaton.specs.Alphabet.{badAlphabet}
-use Rattle.game.specs.Rule.{Buffers, buffers}
-use Rattle.game.proofs.RuleCheckLaws.{by-alphabet, by-rule-length, by-condition-length, by-buffer}
+use Rattle.game.proofs.RuleCheckLaws.{by-alphabet, by-rule-length, by-condition-length}
 use Rattle.game.proofs.rule.check_rule.Statement.{statement}
 use Rattle.game.proofs.rule.check_rule.Tie as tie
-
-abbrev old : tie.Start → Buffers
-old z = buffers (now (z .args .transitions)) (now (z .args .accepting)) (now (z .args .system)) (now (z .args .environment))
 
 -- the tests that were passed
 abbrev begin₁ : tie.Else1 → tie.Start
@@ -37,7 +33,7 @@ returns : tie.Need-returns
 returns c =
     let z = c .before .before .before .before .before .before .before .before in
     let a = z .args in
-    by-alphabet (a .i) (a .o) (now (a .rule)) (now (a .condition)) (old z) 0 (sym (c .before .bad-alphabet .ensures) ∙ c .if1 .taken)
+    by-alphabet (a .i) (a .o) (now (a .rule)) (now (a .condition)) 0 (sym (c .before .bad-alphabet .ensures) ∙ c .if1 .taken)
 
 too-long-requires : tie.Need-too-long-requires
 too-long-requires c κs = search needs
@@ -47,7 +43,7 @@ returns-2 c =
     let e = c .before .before in
     let z = begin₁ e in
     let a = z .args in
-    by-rule-length (a .i) (a .o) (now (a .rule)) (now (a .condition)) (old z) 0 (fits e) (sym (c .before .too-long .ensures) ∙ c .if2 .taken)
+    by-rule-length (a .i) (a .o) (now (a .rule)) (now (a .condition)) 0 (fits e) (sym (c .before .too-long .ensures) ∙ c .if2 .taken)
 
 too-long-requires-2 : tie.Need-too-long-requires-2
 too-long-requires-2 c κs = search needs
@@ -57,27 +53,13 @@ returns-3 c =
     let e = c .before .before .before .before in
     let z = begin₁ e in
     let a = z .args in
-    by-condition-length (a .i) (a .o) (now (a .rule)) (now (a .condition)) (old z) 0 (fits e) (sym (c .before .too-long2 .ensures) ∙ c .if3 .taken)
-
-short-buffers-requires : tie.Need-short-buffers-requires
-short-buffers-requires c κs = fits (c .before .before .before .before)
-
-returns-4 : tie.Need-returns-4
-returns-4 c =
-    let e = c .before .before in
-    let z = begin₃ e in
-    let a = z .args in
-    by-buffer (a .i) (a .o) (now (a .rule)) (now (a .condition)) (old z) 0 (fits (e .before .before .before .before)) (rule-fits e) (condition-fits e)
-    (sym (c .before .short-buffers .ensures) ∙ c .if4 .taken)
+    by-condition-length (a .i) (a .o) (now (a .rule)) (now (a .condition)) 0 (fits e) (sym (c .before .too-long2 .ensures) ∙ c .if3 .taken)
 
 check-texts-requires : tie.Need-check-texts-requires
-check-texts-requires c κs = let e = c .before .before in (fits (e .before .before .before .before), rule-fits e, condition-fits e)
+check-texts-requires c κs = (fits (c .before .before .before .before), rule-fits c, condition-fits c)
 
-returns-5 : tie.Need-returns-5
-returns-5 c =
-    let g = c .before in
-    let z = begin₃ (g .before .before) in
-    c .check-texts .ensures (old z) (sym (g .before .short-buffers .ensures) ∙ g .if4 .left)
+returns-4 : tie.Need-returns-4
+returns-4 c = c .check-texts .ensures
 
 pub check-rule-spec : {M : Type 1} → statement M
 check-rule-spec =
@@ -89,7 +71,5 @@ check-rule-spec =
     returns-2
     too-long-requires-2
     returns-3
-    short-buffers-requires
-    returns-4
     check-texts-requires
-    returns-5)
+    returns-4)

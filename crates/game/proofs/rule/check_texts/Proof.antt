@@ -42,11 +42,11 @@ text-refusal-requires : tie.Need-text-refusal-requires
 text-refusal-requires c κs = search needs
 
 returns : tie.Need-returns
-returns c old short =
+returns c =
     let z = c .before .before .before .before .before in
     let a = z .args in
     let r = c .before .before .check in
-    by-rule (a .i) (a .o) (now (a .rule)) (now (a .condition)) old 0 (z .pre .0) (z .pre .1) (z .pre .2) short (r .result) (r .ensures)
+    by-rule (a .i) (a .o) (now (a .rule)) (now (a .condition)) 0 (z .pre .0) (z .pre .1) (z .pre .2) (r .result) (r .ensures)
     (not-good (r .result) (c .before .match .keys2)) (c .text-refusal .result) (c .text-refusal .ensures)
 
 read-condition-requires : tie.Need-read-condition-requires
@@ -59,21 +59,21 @@ enum-known-x : tie.Need-enum-known-x
 enum-known-x c = search needs
 
 returns-2 : tie.Need-returns-2
-returns-2 c old short =
+returns-2 c =
     let g = c .before .before .before .before in
     let z = begin g in
     let a = z .args in
     let m = c .before .mask .given in
-    by-none (a .i) (a .o) (now (a .rule)) (now (a .condition)) old (m .0 .0) (z .pre .0) (z .pre .1) (z .pre .2) short (g .enum-told .given .0 .0) (good g)
+    by-none (a .i) (a .o) (now (a .rule)) (now (a .condition)) (m .0 .0) (z .pre .0) (z .pre .1) (z .pre .2) (g .enum-told .given .0 .0) (good g)
     (subst (λ (x : Assumption). Conditioned (a .i) (now (a .condition)) x) (m .1) (c .before .before .before .read-condition .ensures))
 
 returns-3 : tie.Need-returns-3
-returns-3 c old short =
+returns-3 c =
     let g = c .before .before .before .before in
     let z = begin g in
     let a = z .args in
     let x = c .before .x .given in
-    by-condition (a .i) (a .o) (now (a .rule)) (now (a .condition)) old 0 (z .pre .0) (z .pre .1) (z .pre .2) short (g .enum-told .given .0 .0) (good g)
+    by-condition (a .i) (a .o) (now (a .rule)) (now (a .condition)) 0 (z .pre .0) (z .pre .1) (z .pre .2) (g .enum-told .given .0 .0) (good g)
     (x .0 .0)
     (subst (λ (y : Assumption). Conditioned (a .i) (now (a .condition)) y) (x .1) (c .before .before .before .read-condition .ensures))
 

@@ -7,6 +7,7 @@ pub mod Meaning
 pub mod PairLaws
 pub mod SuccessorLaws
 pub mod ExplorationLaws
+pub mod FillLaws
 pub mod TwinLaws
 pub mod BuildLaws
 pub mod FirstOverLaws

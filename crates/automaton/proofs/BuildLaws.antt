@@ -1,15 +1,23 @@
--- What `build` leaves in the buffers (specs/inner/Exploration.antt): explored and marked, they hold the automaton of the formula, cleared behind it;
--- or they are cleared where it has too many states. Assumes nothing.
-use Prim.Native.Nat.{ℕ, suc, _*_, _%_, _^_, _≤_, _<_, zero-le, min}
-use mathlib.Core.Path.{_≡_, refl, ap, ap₂, _∙_}
+-- What `build` leaves in the buffers (specs/inner/Exploration.antt): filled and marked, they hold the automaton of the formula; where it has too many states,
+-- or there is no room for them, the buffers are as they were. Assumes nothing.
+use Prim.Native.Nat.{ℕ, suc, _*_, _%_, _^_, _≤_, _<_, min}
+use mathlib.Core.Path.{_≡_, refl, sym, ap, ap₂, _∙_, subst}
+use mathlib.Core.Bool.{true, false, _||_}
 use mathlib.Core.List.{List}
-use native.Mathlib.Nat.{mul-le-mul-right}
 use native.Mathlib.Omega.{arith}
-use lib.ListN.{getD, length}
+use lib.Dec.{ltb}
+use lib.ListN.{getD}
+use borrow.Author.Tests.{lt-ltb, le-ltb}
 use Rattle.machine.specs.Discovery as machine
 use Rattle.machine.proofs.Reachable.{too-many}
 use Rattle.machine.proofs.AutomatonLaws.{moved-at, automaton-holds}
+use Rattle.machine.proofs.FillingLaws.{all-count}
+use Rattle.reader.specs.declared.refusal.Refusal.{Refusal}
+use Rattle.reader.specs.declared.refusal.Refusal.the-variants.{Nothing, Buffer, StateCount}
 use Rattle.reader.specs.Formula.{Formula, operators}
+use Rattle.reader.specs.Refusal.{isNothing}
+use Rattle.reader.proofs.RefusalLaws.{differs, something}
+use Rattle.automaton.specs.declared.construct.Construction.the-variants.{Built, Refused}
 use Rattle.automaton.specs.Limits.{stateLimit}
 use Rattle.automaton.specs.inner.Sizes.{coordinateLimit}
 use Rattle.automaton.specs.Bits.{bit, one, ofBits}
@@ -17,61 +25,66 @@ use Rattle.automaton.specs.Trace.{Satisfies}
 use Rattle.automaton.specs.Valuation.{vectors, endVector}
 use Rattle.automaton.specs.State.{start, accepts, machineOf}
 use Rattle.automaton.specs.Discovery.{states, numberOfStates}
-use Rattle.automaton.specs.Buffer.{Cleared}
-use Rattle.automaton.specs.inner.Exploration.{Explored, BuiltAutomaton}
+use Rattle.automaton.specs.Automaton.{TooManyStates}
+use Rattle.automaton.specs.Buffer.{Kept}
+use Rattle.automaton.specs.Construction.{shortAutomaton, countRefusal}
+use Rattle.automaton.specs.inner.Exploration.{wordAt, AllListed, Filled, Written, BuiltAutomaton}
 use Rattle.automaton.proofs.BitLaws.{one-shifted}
 use Rattle.automaton.proofs.Meaning.{formula-recognizes}
 
--- the bytes from `used` on are as they were
-abbrev pub Kept : (used : ℕ) (old new : List ℕ) → Type 0
-Kept used old new = (k : ℕ) → used ≤ k → getD new k 0 ≡ getD old k 0
+module _ (φ : Formula) (L room : ℕ) (t a : List ℕ) where
+  -- refused with the buffers as they were
+  refused : (x : Refusal) → isNothing x ≡ false → countRefusal L room t a (numberOfStates φ L) ≡ x → (x ≡ StateCount → TooManyStates φ L)
+      → BuiltAutomaton φ L room t a t a (Refused x)
+  refused x s e many =
+      record {
+        answer = rw (e, s);
+        written = λ z. absurd (something x s (sym e ∙ z));
+        many = λ z. many (sym e ∙ z);
+        untouched = λ _. (refl, refl);
+      }
 
--- a cleared share of which the first bytes were written
-cleared-written : (used share : ℕ) (old l new : List ℕ) → used ≤ share → Cleared 0 share old l → Kept used l new → length new ≡ length l
-    → Cleared used share old new
-cleared-written used share old l new h c kept e =
-    record { size = e ∙ c .size; rest = λ k a b. kept k a ∙ c .rest k zero-le b; beyond = λ k a. kept k (omega arith) ∙ c .beyond k a }
+  module _ (r : ℕ) (list : List ℕ) (pos : 0 < L) (all : AllListed φ L r list) where
+    pub built-beyond : stateLimit < r → BuiltAutomaton φ L room t a t a (Refused StateCount)
+    built-beyond h =
+        let n : r ≡ min (suc stateLimit) (numberOfStates φ L) = all .number in
+        let more : stateLimit < numberOfStates φ L = omega arith in
+        refused StateCount refl (rw (lt-ltb stateLimit (numberOfStates φ L) more)) (λ _. too-many (machineOf φ) L stateLimit pos more)
 
-pub built-within : (φ : Formula) (L r end : ℕ) (transitions t₁ t₂ accepting a₁ a₂ list : List ℕ) → 0 < L → r ≤ stateLimit
-    → Explored φ L r list t₂ → end ≡ endVector φ
-    → Cleared 0 (stateLimit * L) transitions t₁ → Kept (r * L) t₁ t₂ → length t₂ ≡ length t₁
-    → Cleared 0 stateLimit accepting a₁ → ((s : ℕ) → s < r → getD a₂ s 0 ≡ one (bit (getD list s 0) end)) × Kept r a₁ a₂ → length a₂ ≡ length a₁
-    → BuiltAutomaton φ L r transitions accepting t₂ a₂
-unfolding accepts machine.numberOfStates
-built-within φ L r end transitions t₁ t₂ accepting a₁ a₂ list pos few ex e ct kt lt ca marks la =
-    let n : r ≡ min (suc stateLimit) (length (states φ L)) = ex .number in
-    let count : r ≡ length (states φ L) = omega arith in
-    let flags : (s : ℕ) → s < r → getD a₂ s 0 ≡ one (accepts φ (machine.stateAt (machineOf φ) (states φ L) s)) =
-    λ s l. marks .0 s l ∙ ap₂ (λ (i j : ℕ). one (bit i j)) (ex .members few s l) e in
-    record {
-      within = λ q.
-          record {
-            count = count;
-            automaton =
-                automaton-holds (machineOf φ) L stateLimit r pos count t₂ a₂ (moved-at (machineOf φ) L stateLimit r pos count t₂ few (ex .filled few)) flags
-                (Satisfies φ) (formula-recognizes φ L) few;
-            transitions-rest = cleared-written (r * L) (stateLimit * L) transitions t₁ t₂ (mul-le-mul-right L few) ct kt lt;
-            accepting-rest = cleared-written r stateLimit accepting a₁ a₂ few ca (marks .1) la;
-          };
-      beyond = λ q. absurd (let z : ⊥ = omega arith in z);
-    }
+    module _ (few : r ≤ stateLimit) where
+      count : r ≡ numberOfStates φ L
+      unfolding machine.numberOfStates
+      count = all-count (machineOf φ) L stateLimit r (wordAt list) few all
 
-pub built-beyond : (φ : Formula) (L r : ℕ) (transitions t₁ t₂ t₃ accepting list : List ℕ) → 0 < L → stateLimit < r → Explored φ L r list t₂
-    → Cleared 0 (stateLimit * L) transitions t₁ → Kept (stateLimit * L) t₁ t₂ → length t₂ ≡ length t₁ → Cleared 0 (stateLimit * L) t₂ t₃
-    → BuiltAutomaton φ L r transitions accepting t₃ accepting
-built-beyond φ L r transitions t₁ t₂ t₃ accepting list pos many ex c₁ kept e c₃ =
-    let n : r ≡ min (suc stateLimit) (numberOfStates φ L) = ex .number in
-    let more : stateLimit < numberOfStates φ L = omega arith in
-    record {
-      within = λ q. absurd (let z : ⊥ = omega arith in z);
-      beyond = λ q.
-          record {
-            count = more;
-            many = too-many (machineOf φ) L stateLimit pos more;
-            cleared = record { size = c₃ .size ∙ e ∙ c₁ .size; rest = c₃ .rest; beyond = λ k a. c₃ .beyond k a ∙ kept k a ∙ c₁ .beyond k a };
-            untouched = refl;
-          };
-    }
+      pub built-short : (ltb room r || shortAutomaton L r t a) ≡ true → BuiltAutomaton φ L room t a t a (Refused (Buffer r))
+      built-short s =
+          refused (Buffer r) refl (ap (countRefusal L room t a) (sym count) ∙ rw (le-ltb stateLimit r few, s))
+          (λ z. absurd (differs (Buffer r) StateCount (λ e. omega arith) z))
+
+      module _ (end : ℕ) (t′ a′ : List ℕ) (e : end ≡ endVector φ) (filled : Filled φ L t′ (r * L)) (kt : Kept (r * L) t t′)
+          (marks : (s : ℕ) → s < r → getD a′ s 0 ≡ one (bit (getD list s 0) end)) (ka : Kept r a a′) where
+        written-states : Written φ L r t a t′ a′
+        unfolding accepts machine.numberOfStates
+        written-states =
+            let flags : (s : ℕ) → s < r → getD a′ s 0 ≡ one (accepts φ (machine.stateAt (machineOf φ) (states φ L) s)) =
+            λ s l. marks s l ∙ ap₂ (λ (i j : ℕ). one (bit i j)) (all .members few s l) e in
+            record {
+              automaton =
+                  automaton-holds (machineOf φ) L stateLimit r pos count t′ a′ (moved-at (machineOf φ) L stateLimit r pos count t′ few filled) flags
+                  (Satisfies φ) (formula-recognizes φ L) few;
+              transitions-kept = kt;
+              accepting-kept = ka;
+            }
+
+        pub built-within : (ltb room r || shortAutomaton L r t a) ≡ false → BuiltAutomaton φ L room t a t′ a′ (Built r)
+        built-within s =
+            let n : countRefusal L room t a (numberOfStates φ L) ≡ Nothing = ap (countRefusal L room t a) (sym count) ∙ rw (le-ltb stateLimit r few, s) in
+            record {
+              answer = rw n (ap Built count);
+              written = λ _. subst (λ (k : ℕ). Written φ L k t a t′ a′) count written-states;
+              many = λ z. absurd (differs Nothing StateCount (λ e. omega arith) (sym n ∙ z));
+              untouched = λ z. absurd (z n);
+            }
 
 -- `1 << width` is the number of valuations, and the start is made from it
 pub vectors-shifted : (φ : Formula) (w : ℕ) → w ≤ coordinateLimit → w ≡ suc (operators φ) → 1 * 2 ^ w % 2 ^ 64 ≡ 2 ^ suc (operators φ)

@@ -2,30 +2,32 @@
 -- Assumes nothing.
 use Prim.Native.Nat.{ℕ, _*_, _≤_}
 use mathlib.Core.Path.{_≡_, refl, sym, ap, _∙_}
-use mathlib.Core.Bool.{true, false, cond}
+use mathlib.Core.Bool.{true, false}
 use mathlib.Core.List.{List}
+use mathlib.Core.Logic.{⊎-elim}
 use native.Mathlib.Omega.{arith}
 use lib.Dec.{ltb}
 use lib.ListN.{length}
-use borrow.Author.Tests.{lt-ltb, le-ltb, ltb-false}
+use borrow.Author.Tests.{ltb-false}
 use Rattle.reader.specs.declared.reading.Reading.{Reading}
 use Rattle.reader.specs.declared.reading.Reading.the-variants.{Good}
 use Rattle.reader.specs.declared.refusal.Refusal.{Refusal}
-use Rattle.reader.specs.declared.refusal.Refusal.the-variants.{Nothing, Alphabet, TextLength, Buffer, StateCount}
+use Rattle.reader.specs.declared.refusal.Refusal.the-variants.{Nothing, Alphabet, TextLength, StateCount}
 use Rattle.reader.specs.Limits.{tooLong}
 use Rattle.reader.specs.Formula.{Formula}
 use Rattle.reader.specs.Marks.{ruleKind}
 use Rattle.reader.specs.Reading.{ReadingOf, IsGood}
-use Rattle.reader.specs.Refusal.{isNothing, afterRule}
+use Rattle.reader.specs.Refusal.{numberOf, placeOf, isNothing, afterRule}
 use Rattle.reader.proofs.BoolLaws.{or-left, or-right}
-use Rattle.reader.proofs.RefusalLaws.{differs, something, NotGood, rule-refused}
+use Rattle.reader.proofs.RefusalLaws.{differs, something, refused-or-served, NotGood, rule-refused}
 use Rattle.reader.proofs.Unambiguous.{one-formula, some-reading}
-use Rattle.automaton.specs.declared.construct.Construction.the-variants.{Built, Refused}
-use Rattle.automaton.specs.Limits.{stateLimit}
+use Rattle.automaton.specs.declared.construct.Construction.{Construction}
+use Rattle.automaton.specs.declared.construct.Construction.the-variants.{Refused}
 use Rattle.automaton.specs.Alphabet.{badAlphabet, letterCount}
 use Rattle.automaton.specs.Discovery.{numberOfStates}
-use Rattle.automaton.specs.Construction.{CountOf, shortAutomaton, constructRefusal, Constructed}
-use Rattle.automaton.specs.inner.Exploration.{WithinLimit, BeyondLimit}
+use Rattle.automaton.specs.Construction.{CountOf, shortAutomaton, countRefusal, constructRefusal, Constructed}
+use Rattle.automaton.specs.Construction.{constructionNumber, constructionPlace, constructionOf}
+use Rattle.automaton.specs.inner.Exploration.{BuiltAutomaton}
 use Rattle.automaton.proofs.ReadLaws.{count-of}
 
 -- the text of a formula counts its states
@@ -33,16 +35,23 @@ pub counts : (i o : ℕ) (text : List ℕ) (φ : Formula) → IsGood i (ruleKind
 counts i o text φ g n e ψ h = e ∙ ap (λ (χ : Formula). numberOfStates χ (letterCount i o)) (one-formula i o true text (g .reads) (h .reads))
 
 -- buffers that are not too short
-pub long-enough : (L : ℕ) (t a : List ℕ) → shortAutomaton L t a ≡ false → (stateLimit * L ≤ length t) × (stateLimit ≤ length a)
-long-enough L t a e =
-    let x = ltb (length t) (stateLimit * L) in
-    let y = ltb (length a) stateLimit in
-    (ltb-false (length t) (stateLimit * L) (or-left x y e), ltb-false (length a) stateLimit (or-right x y e))
+pub long-enough : (L n : ℕ) (t a : List ℕ) → shortAutomaton L n t a ≡ false → (n * L ≤ length t) × (n ≤ length a)
+long-enough L n t a e =
+    let x = ltb (length t) (n * L) in
+    let y = ltb (length a) n in
+    (ltb-false (length t) (n * L) (or-left x y e), ltb-false (length a) n (or-right x y e))
 
-module _ (i o : ℕ) (text t a : List ℕ) where
+-- the number and the place of an answer are those of its refusal
+answer-number : (x : Refusal) (n : ℕ) → constructionNumber (constructionOf x n) ≡ numberOf x
+answer-number x n = ⊎-elim (λ e. rw e) (λ e. rw e) (refused-or-served x)
+
+answer-place : (x : Refusal) (n : ℕ) → constructionPlace (constructionOf x n) ≡ placeOf x
+answer-place x n = ⊎-elim (λ e. rw e) (λ e. rw e) (refused-or-served x)
+
+module _ (i o : ℕ) (text : List ℕ) (room : ℕ) (t a : List ℕ) where
   -- refused with the buffers as they were
   refused : (ρ : Reading) → ReadingOf i (ruleKind i o) text ρ → (x : Refusal) → isNothing x ≡ false → (x ≡ StateCount → ⊥)
-      → ((n : ℕ) → x ≡ constructRefusal i o text t a ρ n) → Constructed i o text t a t a (Refused x)
+      → ((n : ℕ) → x ≡ constructRefusal i o text room t a ρ n) → Constructed i o text room t a t a (Refused x)
   refused ρ r x s d e =
       let n = count-of i o text ρ r in
       record {
@@ -57,73 +66,55 @@ module _ (i o : ℕ) (text t a : List ℕ) where
         answer = rw s;
         served = λ z. absurd (something x s z);
         over = λ z. absurd (d z);
-        untouched = λ _ _. (refl, refl);
+        untouched = λ _. (refl, refl);
       }
 
-  unread : (x : Refusal) → isNothing x ≡ false → (x ≡ StateCount → ⊥) → ((ρ : Reading) (n : ℕ) → x ≡ constructRefusal i o text t a ρ n)
-      → Constructed i o text t a t a (Refused x)
+  unread : (x : Refusal) → isNothing x ≡ false → (x ≡ StateCount → ⊥) → ((ρ : Reading) (n : ℕ) → x ≡ constructRefusal i o text room t a ρ n)
+      → Constructed i o text room t a t a (Refused x)
   unread x s d e = let r = some-reading i o true text in refused (r .0) (r .1) x s d (e (r .0))
 
-  pub by-alphabet : badAlphabet i o ≡ true → Constructed i o text t a t a (Refused Alphabet)
+  pub by-alphabet : badAlphabet i o ≡ true → Constructed i o text room t a t a (Refused Alphabet)
   unfolding constructRefusal
   by-alphabet p = unread Alphabet refl (differs Alphabet StateCount (λ e. omega arith)) (λ ρ n. rw p)
 
   module _ (p : badAlphabet i o ≡ false) where
-    pub by-length : tooLong text ≡ true → Constructed i o text t a t a (Refused TextLength)
+    pub by-length : tooLong text ≡ true → Constructed i o text room t a t a (Refused TextLength)
     unfolding constructRefusal
     by-length q = unread TextLength refl (differs TextLength StateCount (λ e. omega arith)) (λ ρ n. rw (p, q))
 
     module _ (q : tooLong text ≡ false) where
-      pub by-buffer : shortAutomaton (letterCount i o) t a ≡ true → Constructed i o text t a t a (Refused Buffer)
+      pub by-reading : (ρ : Reading) → ReadingOf i (ruleKind i o) text ρ → NotGood ρ → (x : Refusal) → x ≡ afterRule ρ Nothing
+          → Constructed i o text room t a t a (Refused x)
       unfolding constructRefusal
-      by-buffer b = unread Buffer refl (differs Buffer StateCount (λ e. omega arith)) (λ ρ n. rw (p, q, b))
+      by-reading ρ r g x e =
+          let f = rule-refused ρ g in
+          refused ρ r x (ap isNothing e ∙ f .is-refused) (λ z. f .not-count (sym e ∙ z))
+          (λ n. rw (p, q) (e ∙ sym (f .first (countRefusal (letterCount i o) room t a n))))
 
-      module _ (b : shortAutomaton (letterCount i o) t a ≡ false) where
-        pub by-reading : (ρ : Reading) → ReadingOf i (ruleKind i o) text ρ → NotGood ρ → (x : Refusal) → x ≡ afterRule ρ Nothing
-            → Constructed i o text t a t a (Refused x)
-        unfolding constructRefusal
-        by-reading ρ r g x e =
-            let f = rule-refused ρ g in
-            refused ρ r x (ap isNothing e ∙ f .is-refused) (λ z. f .not-count (sym e ∙ z))
-            (λ n. rw (p, q, b) (e ∙ sym (f .first (cond (ltb stateLimit n) StateCount Nothing))))
+      -- the refusal of a good text, by the number of its states
+      counted-refusal : (m n : ℕ) → constructRefusal i o text room t a (Good m) n ≡ countRefusal (letterCount i o) room t a n
+      unfolding constructRefusal
+      counted-refusal m n = rw (p, q)
 
-        -- the refusal of a good text, by the number of its states
-        counted-refusal : (m n : ℕ) → constructRefusal i o text t a (Good m) n ≡ cond (ltb stateLimit n) StateCount Nothing
-        unfolding constructRefusal
-        counted-refusal m n = rw (p, q, b)
-
-        module _ (m : ℕ) (r : ReadingOf i (ruleKind i o) text (Good m)) (φ : Formula) (g : IsGood i (ruleKind i o) text φ) (t′ a′ : List ℕ) where
-          pub by-count : BeyondLimit φ (letterCount i o) t a t′ a′ → Constructed i o text t a t′ a′ (Refused StateCount)
-          by-count v =
-              record {
-                reading = Good m;
-                read = r;
-                states = numberOfStates φ (letterCount i o);
-                counted = counts i o text φ g (numberOfStates φ (letterCount i o)) refl;
-                refusal = StateCount;
-                first = sym (counted-refusal m (numberOfStates φ (letterCount i o)) ∙ rw (lt-ltb stateLimit (numberOfStates φ (letterCount i o)) (v .count)));
-                number = refl;
-                place = refl;
-                answer = refl;
-                served = λ z. absurd (something StateCount refl z);
-                over = λ _. record { formula = φ; good = g; many = v .many; cleared = v .cleared; untouched = v .untouched };
-                untouched = λ _ d. absurd (d refl);
-              }
-
-          pub by-states : (n : ℕ) → n ≤ stateLimit → WithinLimit φ (letterCount i o) n t a t′ a′ → Constructed i o text t a t′ a′ (Built n)
-          by-states n h v =
-              record {
-                reading = Good m;
-                read = r;
-                states = n;
-                counted = counts i o text φ g n (v .count);
-                refusal = Nothing;
-                first = sym (counted-refusal m n ∙ rw (le-ltb stateLimit n h));
-                number = refl;
-                place = refl;
-                answer = refl;
-                served = λ _.
-                    record { formula = φ; good = g; automaton = v .automaton; transitions-rest = v .transitions-rest; accepting-rest = v .accepting-rest };
-                over = λ z. absurd (differs Nothing StateCount (λ e. omega arith) z);
-                untouched = λ d _. absurd (d refl);
-              }
+      -- a good text
+      pub by-states : (m : ℕ) → ReadingOf i (ruleKind i o) text (Good m) → (φ : Formula) → IsGood i (ruleKind i o) text φ → (t′ a′ : List ℕ) (r : Construction)
+          → BuiltAutomaton φ (letterCount i o) room t a t′ a′ r → Constructed i o text room t a t′ a′ r
+      by-states m ρ φ g t′ a′ r b =
+          let n = numberOfStates φ (letterCount i o) in
+          let x = countRefusal (letterCount i o) room t a n in
+          record {
+            reading = Good m;
+            read = ρ;
+            states = n;
+            counted = counts i o text φ g n refl;
+            refusal = x;
+            first = sym (counted-refusal m n);
+            number = ap constructionNumber (b .answer) ∙ answer-number x n;
+            place = ap constructionPlace (b .answer) ∙ answer-place x n;
+            answer = b .answer;
+            served = λ z.
+                let w = b .written z in
+                record { formula = φ; good = g; automaton = w .automaton; transitions-kept = w .transitions-kept; accepting-kept = w .accepting-kept };
+            over = λ z. record { formula = φ; good = g; many = b .many z };
+            untouched = b .untouched;
+          }

@@ -5,12 +5,11 @@ use Prim.Native.Nat.{ℕ, _+_}
 use mathlib.Core.Path.{_≡_, refl, sym, ap, _∙_, subst}
 use mathlib.Core.Bool.{Bool, true, false, cond}
 use mathlib.Core.List.{List}
-use mathlib.Core.Logic.{_↔_, _⊎_, ⊎-elim}
-use lib.Dec.{ltb}
+use mathlib.Core.Logic.{_↔_, ⊎-elim}
 use lib.Pow.{pow-pos}
 use Rattle.reader.specs.declared.reading.Reading.{Reading}
 use Rattle.reader.specs.declared.refusal.Refusal.{Refusal}
-use Rattle.reader.specs.declared.refusal.Refusal.the-variants.{Nothing, Alphabet, TextLength, Buffer, StateCount}
+use Rattle.reader.specs.declared.refusal.Refusal.the-variants.{Alphabet, TextLength}
 use Rattle.reader.specs.Limits.{tooLong}
 use Rattle.reader.specs.Formula.{Formula}
 use Rattle.reader.specs.Marks.{ruleKind}
@@ -23,15 +22,13 @@ use Rattle.automaton.specs.declared.trial.Trial.the-variants.{Satisfied,
 use Rattle.automaton.specs.declared.condition.Assumption.{Assumption}
 use Rattle.automaton.specs.declared.condition.Assumption.the-variants.{Mask}
 use Rattle.automaton.specs.declared.construct.Construction.{Construction}
-use Rattle.automaton.specs.declared.construct.Construction.the-variants.{Built}
 use Rattle.automaton.specs.Trace.{Satisfies}
 use Rattle.automaton.specs.Trial.{trialRefusal, Tried}
 use Rattle.automaton.specs.Condition.{maskOf, conditionRefusal, Conditioned}
-use Rattle.automaton.specs.Limits.{stateLimit}
 use Rattle.automaton.specs.Alphabet.{badAlphabet, letterCount}
-use Rattle.automaton.specs.Construction.{CountOf, shortAutomaton, constructRefusal, Constructed}
+use Rattle.automaton.specs.Construction.{CountOf, countRefusal, constructRefusal, constructionOf, Constructed}
 use Rattle.automaton.proofs.CountOfLaws.{one-refusal}
-use Rattle.automaton.proofs.OneAutomaton.{one-automaton, one-refused}
+use Rattle.automaton.proofs.OneAutomaton.{one-automaton}
 
 -- two tests that say whether the same holds are one
 same-test : {A : Type 0} (b c : Bool) → (b ≡ true) ↔ A → (c ≡ true) ↔ A → b ≡ c
@@ -78,39 +75,36 @@ module _ {i : ℕ} {text : List ℕ} {r r′ : Assumption} (x : Conditioned i te
       ∙ sym (y .refused (λ z. e (same-condition-refusal ∙ z))))
       (refused-or-served (x .refusal))
 
--- the rule's number of states does not matter
-one-count : (i o : ℕ) (text t a : List ℕ) (ρ : Reading) (n m : ℕ) → ReadingOf i (ruleKind i o) text ρ → CountOf i o text n → CountOf i o text m
-    → constructRefusal i o text t a ρ n ≡ constructRefusal i o text t a ρ m
+-- two numbers of the rule's states give one refusal
+one-count : (i o : ℕ) (text : List ℕ) (room : ℕ) (t a : List ℕ) (ρ : Reading) (n m : ℕ) → ReadingOf i (ruleKind i o) text ρ
+    → CountOf i o text n → CountOf i o text m → constructRefusal i o text room t a ρ n ≡ constructRefusal i o text room t a ρ m
 unfolding constructRefusal
-one-count i o text t a ρ n m r c d =
-    ap (λ (x : Refusal). cond (badAlphabet i o) Alphabet (cond (tooLong text) TextLength (cond (shortAutomaton (letterCount i o) t a) Buffer x)))
-    (one-refusal i o text (λ k. cond (ltb stateLimit k) StateCount Nothing) ρ n m r c d)
+one-count i o text room t a ρ n m r c d =
+    ap (λ (x : Refusal). cond (badAlphabet i o) Alphabet (cond (tooLong text) TextLength x))
+    (one-refusal i o text (countRefusal (letterCount i o) room t a) ρ n m r c d)
 
--- the answer to a refusal and a number of states
-abbrev answered : Refusal → ℕ → Construction
-answered z n = cond (isNothing z) (Built n) (Rattle.automaton.specs.declared.construct.Construction.the-variants.Refused z)
+-- the answer to a refusal is by the refusal alone
+without-count : (x : Refusal) (n m : ℕ) → isNothing x ≡ false → constructionOf x n ≡ constructionOf x m
+without-count x n m e = rw e
 
--- a refusal carries no number of states
-without-count : (z : Refusal) (n m : ℕ) → isNothing z ≡ false → answered z n ≡ answered z m
-without-count z n m e = rw e
-
-module _ {i o : ℕ} {text t a t₁ a₁ t₂ a₂ : List ℕ} {r r′ : Construction} (x : Constructed i o text t a t₁ a₁ r) (y : Constructed i o text t a t₂ a₂ r′) where
+module _ {i o room : ℕ} {text t a t₁ a₁ t₂ a₂ : List ℕ} {r r′ : Construction}
+    (x : Constructed i o text room t a t₁ a₁ r) (y : Constructed i o text room t a t₂ a₂ r′) where
   same-construction-refusal : x .refusal ≡ y .refusal
   same-construction-refusal =
       x .first
-      ∙ ap (λ (ρ : Reading). constructRefusal i o text t a ρ (x .states)) (one-reading i o true text (x .read) (y .read))
-      ∙ one-count i o text t a (y .reading) (x .states) (y .states) (y .read) (x .counted) (y .counted)
+      ∙ ap (λ (ρ : Reading). constructRefusal i o text room t a ρ (x .states)) (one-reading i o true text (x .read) (y .read))
+      ∙ one-count i o text room t a (y .reading) (x .states) (y .states) (y .read) (x .counted) (y .counted)
       ∙ sym (y .first)
 
-  same-states : answered (x .refusal) (x .states) ≡ answered (x .refusal) (y .states)
+  same-states : constructionOf (x .refusal) (x .states) ≡ constructionOf (x .refusal) (y .states)
   same-states =
       ⊎-elim
-      (λ n. let s = x .served n in ap (answered (x .refusal)) (x .counted (s .formula) (s .good) ∙ sym (y .counted (s .formula) (s .good))))
+      (λ n. let s = x .served n in ap (constructionOf (x .refusal)) (x .counted (s .formula) (s .good) ∙ sym (y .counted (s .formula) (s .good))))
       (λ n. without-count (x .refusal) (x .states) (y .states) n)
       (refused-or-served (x .refusal))
 
   same-construction : r ≡ r′
-  same-construction = x .answer ∙ same-states ∙ ap (λ (z : Refusal). answered z (y .states)) same-construction-refusal ∙ sym (y .answer)
+  same-construction = x .answer ∙ same-states ∙ ap (λ (z : Refusal). constructionOf z (y .states)) same-construction-refusal ∙ sym (y .answer)
 
   same-buffers : (t₁ ≡ t₂) × (a₁ ≡ a₂)
   same-buffers =
@@ -120,14 +114,15 @@ module _ {i o : ℕ} {text t a t₁ a₁ t₂ a₂ : List ℕ} {r r′ : Constru
       let v = y .served (sym same-construction-refusal ∙ n) in
       one-automaton (letterCount i o) (pow-pos (i + o)) (u .formula) (v .formula) (one-formula i o true text (u .good .reads) (v .good .reads))
       (x .states) (y .states) (x .counted (u .formula) (u .good) ∙ sym (y .counted (u .formula) (u .good))) t a t₁ a₁ t₂ a₂
-      (u .automaton, u .transitions-rest, u .accepting-rest) (v .automaton, v .transitions-rest, v .accepting-rest))
+      (u .automaton, u .transitions-kept, u .accepting-kept) (v .automaton, v .transitions-kept, v .accepting-kept))
       (λ n.
       let e = something (x .refusal) n in
-      one-refused i o text (x .refusal) (y .refusal) same-construction-refusal t a t₁ a₁ t₂ a₂
-      (x .over, x .untouched e) (y .over, y .untouched (λ z. e (same-construction-refusal ∙ z))))
+      let u = x .untouched e in
+      let v = y .untouched (λ z. e (same-construction-refusal ∙ z)) in
+      (u .0 ∙ sym (v .0), u .1 ∙ sym (v .1)))
       (refused-or-served (x .refusal))
 
 -- two runs of the construction call agree in the answer and in both buffers
-pub one-construction : {i o : ℕ} {text t a t₁ a₁ t₂ a₂ : List ℕ} {r r′ : Construction}
-    → Constructed i o text t a t₁ a₁ r → Constructed i o text t a t₂ a₂ r′ → (r ≡ r′) × (t₁ ≡ t₂) × (a₁ ≡ a₂)
+pub one-construction : {i o room : ℕ} {text t a t₁ a₁ t₂ a₂ : List ℕ} {r r′ : Construction}
+    → Constructed i o text room t a t₁ a₁ r → Constructed i o text room t a t₂ a₂ r′ → (r ≡ r′) × (t₁ ≡ t₂) × (a₁ ≡ a₂)
 one-construction x y = let b = same-buffers x y in (same-construction x y, b .0, b .1)

@@ -3,7 +3,7 @@
 -- Assumes nothing.
 use borrow.Author.Needs.{needs}
 use mathlib.Core.Path.{_≡_}
-use Prim.Native.Nat.{ℕ, suc, _+_, _≤_}
+use Prim.Native.Nat.{suc, _+_, _≤_}
 use native.Mathlib.Omega.{arith}
 use Rattle.reader.specs.Limits.{nodeLimit}
 use Rattle.reader.specs.Formula.{Formula, operators}
@@ -43,8 +43,6 @@ build-requires c κs =
       c .before .before .before .before .end-vector .ensures .1,
       z .pre .1 .0,
       z .pre .1 .1,
-      z .pre .1 .2,
-      z .pre .1 .3,
     )
 
 same-length : tie.Need-same-length
@@ -57,12 +55,10 @@ returns : tie.Need-returns
 returns c =
     let b = c .before .before .before .before in
     let t = b .before .before .before .before in
-    let e = t .before in (
-      λ φ r.
-          b .build .ensures .0 φ (t .tabulate .ensures φ r (width-is (e .before) φ r)) (width-is (e .before) φ r)
-          (e .end-vector .ensures .0 φ r (width-is (e .before) φ r)),
-      b .build .ensures .1,
-    )
+    let e = t .before in
+    λ φ r.
+    b .build .ensures φ (t .tabulate .ensures φ r (width-is (e .before) φ r)) (width-is (e .before) φ r)
+    (e .end-vector .ensures .0 φ r (width-is (e .before) φ r))
 
 pub build-nodes-spec : {M : Type 1} → statement M
 build-nodes-spec =

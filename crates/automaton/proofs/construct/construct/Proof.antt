@@ -1,22 +1,19 @@
 -- `automaton::construct::construct` meets its contract: each return is the case of the promise that the tests before it decided.
 -- Assumes nothing.
 use borrow.Author.Needs.{needs}
-use mathlib.Core.Path.{_≡_, refl, sym, ap, _∙_, subst}
-use mathlib.Core.Bool.{Bool, true, false}
+use mathlib.Core.Path.{_≡_, sym, _∙_, subst}
+use mathlib.Core.Bool.{true, false}
 use mathlib.Core.List.{List}
-use Prim.Native.Nat.{ℕ, suc, _+_, _*_, _≤_}
+use Prim.Native.Nat.{ℕ}
 use native.Mathlib.Omega.{arith}
-use lib.ListN.{length}
 use denote.Ref.{now}
 use Rattle.reader.specs.Limits.{tooLong}
 use Rattle.reader.proofs.RefusalLaws.{not-good}
-use Rattle.automaton.specs.Limits.{stateLimit}
 use Rattle.automaton.specs.Alphabet.{badAlphabet, letterCount}
-use Rattle.automaton.specs.Construction.{shortAutomaton}
-use Rattle.automaton.specs.inner.Exploration.{BuiltAutomaton, WithinLimit, BeyondLimit}
+use Rattle.automaton.specs.inner.Exploration.{BuiltAutomaton}
 use Rattle.automaton.proofs.AlphabetLaws.{inputs-fit, outputs-fit, LettersFit, letters-fit}
 use Rattle.automaton.proofs.ReadLaws.{Represented, read-represents}
-use Rattle.automaton.proofs.ConstructionLaws.{by-alphabet, by-length, by-buffer, by-reading, by-count, by-states, long-enough}
+use Rattle.automaton.proofs.ConstructionLaws.{by-alphabet, by-length, by-reading, by-states}
 use Rattle.automaton.proofs.construct.construct.Statement.{statement}
 use Rattle.automaton.proofs.construct.construct.Tie as tie
 
@@ -33,24 +30,12 @@ short c = sym (c .before .too-long .ensures) ∙ c .if2 .left
 letters-of : (c : tie.After-power) → LettersFit (begin₂ (c .before) .args .i) (begin₂ (c .before) .args .o) (c .power .result)
 letters-of c = let z = begin₂ (c .before) .args in letters-fit (z .i) (z .o) (c .power .result) (fits (c .before)) (c .power .ensures)
 
--- the test of the buffers, by the number of letters
-buffers : (c : tie.After-short-automaton) (b : Bool) → c .short-automaton .result ≡ b
-    → shortAutomaton (letterCount (begin₂ (c .before .before .before .before) .args .i) (begin₂ (c .before .before .before .before) .args .o))
-    (now (begin₂ (c .before .before .before .before) .args .transitions)) (now (begin₂ (c .before .before .before .before) .args .accepting)) ≡ b
-buffers c b e =
-    let z = begin₂ (c .before .before .before .before) .args in
-    ap (λ (L : ℕ). shortAutomaton L (now (z .transitions)) (now (z .accepting))) (sym (letters-of (c .before .before .before) .is))
-    ∙ sym (c .short-automaton .ensures) ∙ e
-
 -- the reading is good, and the nodes represent its formula
-abbrev passed : tie.After-known-told → tie.Else3
-passed c = c .before .before .before .before .before
-
-abbrev powered : tie.Else3 → tie.After-power
-powered c = c .before .before .before .before
+abbrev powered : tie.After-known-told → tie.After-power
+powered c = c .before .before .before .before .before
 
 abbrev begin : tie.After-known-told → tie.Start
-begin c = begin₂ (powered (passed c) .before)
+begin c = begin₂ (powered c .before)
 
 abbrev nodes : tie.After-known-told → List ℕ
 nodes c = c .before .before .before .read .last .1 .1 .1 .1 .0
@@ -69,18 +54,18 @@ abbrev read-at : tie.After-build-nodes → tie.After-known-told
 read-at c = c .before .before .before .before
 
 built : (c : tie.After-build-nodes)
-    → BuiltAutomaton (represented (read-at c) .formula) (letterCount (begin (read-at c) .args .i) (begin (read-at c) .args .o)) (c .build-nodes .result)
-    (now (begin (read-at c) .args .transitions)) (now (begin (read-at c) .args .accepting)) (c .build-nodes .last .1 .1 .1 .0)
-    (c .build-nodes .last .1 .1 .1 .1 .0)
+    → BuiltAutomaton (represented (read-at c) .formula) (letterCount (begin (read-at c) .args .i) (begin (read-at c) .args .o)) (begin (read-at c) .args .room)
+    (now (begin (read-at c) .args .transitions)) (now (begin (read-at c) .args .accepting)) (c .build-nodes .last .1 .1 .1 .1 .0)
+    (c .build-nodes .last .1 .1 .1 .1 .1 .0) (c .build-nodes .result)
 built c =
     let k = read-at c in
     let z = begin k .args in
     let v = represented k in
     subst
     (λ (L : ℕ).
-    BuiltAutomaton (v .formula) L (c .build-nodes .result) (now (z .transitions)) (now (z .accepting))
-    (c .build-nodes .last .1 .1 .1 .0) (c .build-nodes .last .1 .1 .1 .1 .0))
-    (letters-of (powered (passed k)) .is) (c .build-nodes .ensures .0 (v .formula) (v .represents))
+    BuiltAutomaton (v .formula) L (z .room) (now (z .transitions)) (now (z .accepting))
+    (c .build-nodes .last .1 .1 .1 .1 .0) (c .build-nodes .last .1 .1 .1 .1 .1 .0) (c .build-nodes .result))
+    (letters-of (powered k) .is) (c .build-nodes .ensures (v .formula) (v .represents))
 
 bad-alphabet-requires : tie.Need-bad-alphabet-requires
 bad-alphabet-requires c κs = search needs
@@ -88,7 +73,7 @@ bad-alphabet-requires c κs = search needs
 returns : tie.Need-returns
 returns c =
     let z = c .before .before .before .before .before .args in
-    by-alphabet (z .i) (z .o) (now (z .text)) (now (z .transitions)) (now (z .accepting)) (sym (c .before .bad-alphabet .ensures) ∙ c .if1 .taken)
+    by-alphabet (z .i) (z .o) (now (z .text)) (z .room) (now (z .transitions)) (now (z .accepting)) (sym (c .before .bad-alphabet .ensures) ∙ c .if1 .taken)
 
 too-long-requires : tie.Need-too-long-requires
 too-long-requires c κs = search needs
@@ -96,7 +81,7 @@ too-long-requires c κs = search needs
 returns-2 : tie.Need-returns-2
 returns-2 c =
     let z = c .before .before .before .before .before .before .before .args in
-    by-length (z .i) (z .o) (now (z .text)) (now (z .transitions)) (now (z .accepting))
+    by-length (z .i) (z .o) (now (z .text)) (z .room) (now (z .transitions)) (now (z .accepting))
     (sym (c .before .before .before .bad-alphabet .ensures) ∙ c .before .before .if1 .left) (sym (c .before .too-long .ensures) ∙ c .if2 .taken)
 
 add-power : tie.Need-add-power
@@ -105,26 +90,11 @@ add-power c = let z = begin₂ c .args in omega (arith, inputs-fit (z .i) (z .o)
 power-requires : tie.Need-power-requires
 power-requires c κs = search needs
 
-short-automaton-requires : tie.Need-short-automaton-requires
-short-automaton-requires c κs = letters-of (c .before .before) .few
-
-same-length : tie.Need-same-length
-same-length c = search needs
-
-same-length-2 : tie.Need-same-length-2
-same-length-2 c = search needs
-
-returns-3 : tie.Need-returns-3
-returns-3 c =
-    let e = c .before .before .before .before .before in
-    let z = begin₂ e .args in
-    by-buffer (z .i) (z .o) (now (z .text)) (now (z .transitions)) (now (z .accepting)) (fits e) (short e) (buffers (c .before) true (c .if3 .taken))
-
 cast-read : tie.Need-cast-read
-cast-read c = let e = powered c .before in let z = begin₂ e .args in omega (arith, inputs-fit (z .i) (z .o) (fits e))
+cast-read c = let z = begin₂ (c .before) .args in omega (arith, inputs-fit (z .i) (z .o) (fits (c .before)))
 
 cast-read-2 : tie.Need-cast-read-2
-cast-read-2 c = let e = powered c .before in let z = begin₂ e .args in omega (arith, outputs-fit (z .i) (z .o) (fits e))
+cast-read-2 c = let z = begin₂ (c .before) .args in omega (arith, outputs-fit (z .i) (z .o) (fits (c .before)))
 
 read-requires : tie.Need-read-requires
 read-requires c κs = search needs
@@ -135,65 +105,36 @@ enum-known-reading c = search needs
 text-refusal-requires : tie.Need-text-refusal-requires
 text-refusal-requires c κs = search needs
 
-same-length-3 : tie.Need-same-length-3
-same-length-3 c = search needs
-
-same-length-4 : tie.Need-same-length-4
-same-length-4 c = search needs
-
-returns-4 : tie.Need-returns-4
-returns-4 c =
-    let g = c .before .before .before .before in
-    let e = powered g .before in
+returns-3 : tie.Need-returns-3
+returns-3 c =
+    let e = c .before .before .before .before .before in
     let z = begin₂ e .args in
     let r = c .before .before .read in
-    by-reading (z .i) (z .o) (now (z .text)) (now (z .transitions)) (now (z .accepting)) (fits e) (short e) (buffers (g .before) false (g .if3 .left))
+    by-reading (z .i) (z .o) (now (z .text)) (z .room) (now (z .transitions)) (now (z .accepting)) (fits e) (short e)
     (r .result) (r .ensures .0) (not-good (r .result) (c .before .match .keys2)) (c .text-refusal .result) (c .text-refusal .ensures)
 
 build-nodes-requires : tie.Need-build-nodes-requires
 build-nodes-requires c κs =
     let k = c .before .before .before in
-    let g = passed k in
-    let f = letters-of (powered g) in
+    let f = letters-of (powered k) in
     let v = represented k in
-    let z = begin k .args in
-    let l = long-enough (powered g .power .result) (now (z .transitions)) (now (z .accepting)) (sym (g .before .short-automaton .ensures) ∙ g .if3 .left) in
-    ((v .formula, v .represents), (f .some, f .few, l .0, l .1))
+    ((v .formula, v .represents), (f .some, f .few))
 
-same-length-5 : tie.Need-same-length-5
-same-length-5 c = search needs
+same-length : tie.Need-same-length
+same-length c = search needs
 
-same-length-6 : tie.Need-same-length-6
-same-length-6 c = search needs
+same-length-2 : tie.Need-same-length-2
+same-length-2 c = search needs
 
-returns-5 : tie.Need-returns-5
-returns-5 c =
-    let b = c .before .before .before .before .before in
+returns-4 : tie.Need-returns-4
+returns-4 c =
+    let b = c .before .before .before .before in
     let k = read-at b in
-    let g = passed k in
-    let e = powered g .before in
+    let e = powered k .before in
     let z = begin k .args in
     let v = represented k in
-    by-count (z .i) (z .o) (now (z .text)) (now (z .transitions)) (now (z .accepting)) (fits e) (short e) (buffers (g .before) false (g .if3 .left))
-    (count k) (v .reading) (v .formula) (v .good) _ _
-    (built b .beyond (let q : b .build-nodes .result ≡ suc stateLimit = omega (arith, c .if4 .taken, b .build-nodes .ensures .1) in q))
-
-same-length-7 : tie.Need-same-length-7
-same-length-7 c = search needs
-
-same-length-8 : tie.Need-same-length-8
-same-length-8 c = search needs
-
-returns-6 : tie.Need-returns-6
-returns-6 c =
-    let b = c .before .before .before .before .before in
-    let k = read-at b in
-    let g = passed k in
-    let e = powered g .before in
-    let z = begin k .args in
-    let v = represented k in
-    by-states (z .i) (z .o) (now (z .text)) (now (z .transitions)) (now (z .accepting)) (fits e) (short e) (buffers (g .before) false (g .if3 .left))
-    (count k) (v .reading) (v .formula) (v .good) _ _ (b .build-nodes .result) (c .if4 .left) (built b .within (c .if4 .left))
+    by-states (z .i) (z .o) (now (z .text)) (z .room) (now (z .transitions)) (now (z .accepting)) (fits e) (short e)
+    (count k) (v .reading) (v .formula) (v .good) _ _ (b .build-nodes .result) (built b)
 
 pub construct-spec : {M : Type 1} → statement M
 construct-spec =
@@ -205,22 +146,13 @@ construct-spec =
     returns-2
     add-power
     power-requires
-    short-automaton-requires
-    same-length
-    same-length-2
-    returns-3
     cast-read
     cast-read-2
     read-requires
     enum-known-reading
     text-refusal-requires
-    same-length-3
-    same-length-4
-    returns-4
+    returns-3
     build-nodes-requires
-    same-length-5
-    same-length-6
-    returns-5
-    same-length-7
-    same-length-8
-    returns-6)
+    same-length
+    same-length-2
+    returns-4)

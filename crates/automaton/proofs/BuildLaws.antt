@@ -1,5 +1,5 @@
--- What `build` leaves in the buffers (specs/inner/Exploration.antt): filled and marked, they hold the automaton of the formula; where it has too many states, or
--- there is no room for them, the buffers are as they were. Assumes nothing.
+-- What `build` leaves in the buffers (specs/inner/Exploration.antt): filled and marked, they hold the automaton of the formula; where it has too many states,
+-- or there is no room for them, the buffers are as they were. Assumes nothing.
 use Prim.Native.Nat.{ℕ, suc, _*_, _%_, _^_, _≤_, _<_, min}
 use mathlib.Core.Path.{_≡_, refl, sym, ap, ap₂, _∙_, subst}
 use mathlib.Core.Bool.{true, false, _||_}

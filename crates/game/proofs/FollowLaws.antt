@@ -17,8 +17,8 @@ use Rattle.game.specs.declared.follow.Followed.{Followed}
 use Rattle.game.specs.declared.follow.Followed.the-variants.{Moved, NoRow, Refused}
 use Rattle.plays.specs.Arena.{Arena, moveIndex, next, goal}
 use Rattle.plays.specs.Strategy.{systemByte}
-use Rattle.game.specs.Given.{badCount, shortRead}
-use Rattle.game.specs.Follower.{shortStrategy, movedBy, laterFollowed, followed, followRefusal, followedNumber, followedPlace, FollowedBy}
+use Rattle.game.specs.Given.{badCount, shortRead, shortStrategy}
+use Rattle.game.specs.Follower.{movedBy, laterFollowed, followed, followRefusal, followedNumber, followedPlace, FollowedBy}
 
 -- the move by output y, as the code has it: where it leads to no state, and where it leads to t
 module _ (G : Arena) (p : Position) (x y z t : ℕ) (same : z ≡ y) (is : t ≡ next G (p .state) x z) where
@@ -32,12 +32,12 @@ module _ (G : Arena) (p : Position) (x y z t : ℕ) (same : z ≡ y) (is : t ≡
 
 -- the tests, in the order 3, 12, 13, "no row", 11
 module _ (G : Arena) (σ : List ℕ) (p : Position) (x : ℕ) where
-  pub read-refused : shortRead G ≡ true → Refused Buffer ≡ laterFollowed G σ p x
+  pub read-refused : shortRead G ≡ true → Refused (Buffer (G .states)) ≡ laterFollowed G σ p x
   unfolding laterFollowed
   read-refused a = rw a
 
   module _ (a : shortRead G ≡ false) where
-    pub table-refused : shortStrategy G σ ≡ true → Refused Buffer ≡ laterFollowed G σ p x
+    pub table-refused : shortStrategy G σ ≡ true → Refused (Buffer (G .states)) ≡ laterFollowed G σ p x
     unfolding laterFollowed
     table-refused b = rw (a, b)
 

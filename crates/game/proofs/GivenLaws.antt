@@ -13,7 +13,6 @@ use borrow.Author.Tests.{le-leb, lt-leb, leb-false, lt-ltb, le-ltb, ltb-false}
 use Rattle.reader.specs.declared.refusal.Refusal.{Refusal}
 use Rattle.reader.specs.declared.refusal.Refusal.the-variants.{Nothing, Alphabet, Buffer, GivenCount, Move, State, Value}
 use Rattle.reader.specs.Refusal.{numberOf, placeOf}
-use Rattle.automaton.specs.Limits.{stateLimit}
 use Rattle.automaton.specs.Alphabet.{badAlphabet, firstOver}
 use Rattle.automaton.proofs.FirstOverLaws.{none-over, letter-at}
 use Rattle.game.specs.declared.answer.Answer.the-variants.{Refused}
@@ -22,19 +21,19 @@ use Rattle.plays.specs.declared.mode.Mode.{Mode}
 use Rattle.plays.specs.Arena.{Arena, arena}
 use Rattle.game.specs.inner.Game.{Valid}
 use Rattle.game.specs.Tables.{Tables, Verdict}
-use Rattle.game.specs.Given.{badCount, moveCount, shortRead, shortTables, badMask, laterRefusal, givenRefusal, Solved}
+use Rattle.game.specs.Given.{badCount, moveCount, shortRead, shortStrategy, shortTables, badMask, laterRefusal, givenRefusal, Solved}
 use Rattle.reader.proofs.BoolLaws.{or-left, or-right}
 use Rattle.game.proofs.AnswerLaws.{verdict-number, verdict-place}
 use Rattle.game.proofs.CheckLaws.{in-range, transitions-long, accepting-long}
 
 -- the test that decides, in the order 3, 12, 11, 13
 module _ (start : ℕ) (G : Arena) (σ τ : List ℕ) where
-  pub read-refused : shortRead G ≡ true → Buffer ≡ laterRefusal start G σ τ
+  pub read-refused : shortRead G ≡ true → Buffer (G .states) ≡ laterRefusal start G σ τ
   unfolding laterRefusal
   read-refused a = rw a
 
   module _ (a : shortRead G ≡ false) where
-    pub tables-refused : shortTables G σ τ ≡ true → Buffer ≡ laterRefusal start G σ τ
+    pub tables-refused : shortTables G σ τ ≡ true → Buffer (G .states) ≡ laterRefusal start G σ τ
     unfolding laterRefusal
     tables-refused b = rw (a, b)
 
@@ -88,8 +87,8 @@ pub record Accepted (i o start : ℕ) (G : Arena) (σ τ : List ℕ) : Type 0 wh
   pub start-fits : start < G .states
   pub inputs-some : 0 < G .inputs
   pub outputs-some : 0 < G .outputs
-  pub system-long : stateLimit * G .inputs ≤ length σ
-  pub environment-long : stateLimit ≤ length τ
+  pub system-long : G .states * G .inputs ≤ length σ
+  pub environment-long : G .states ≤ length τ
 
 record Later (start : ℕ) (G : Arena) (σ τ : List ℕ) : Type 0 where
   pub read : shortRead G ≡ false
@@ -101,7 +100,7 @@ later-accepted : (start : ℕ) (G : Arena) (σ τ : List ℕ) → laterRefusal s
 unfolding laterRefusal
 later-accepted start G σ τ e =
     let T = take (moveCount G) (G .transitions) in
-    let short = passed (shortRead G || shortTables G σ τ) Buffer _ (omega arith) e in
+    let short = passed (shortRead G || shortTables G σ τ) (Buffer (G .states)) _ (omega arith) e in
     let state = passed (leb (G .states) start) State _ (omega arith) (short .1) in
     let move = passed (ltb (firstOver (G .states) T) (length T)) (Move (firstOver (G .states) T)) _ (omega arith) (state .1) in
     let read = or-left (shortRead G) (shortTables G σ τ) (short .0) in
@@ -141,8 +140,8 @@ accepted i o start n transitions flags mask σ τ e =
       start-fits = later .start-fits;
       inputs-some = range .inputs-some;
       outputs-some = pow-pos o;
-      system-long = ltb-false (length σ) (stateLimit * G .inputs) (or-left (ltb (length σ) (stateLimit * G .inputs)) (ltb (length τ) stateLimit) tables);
-      environment-long = ltb-false (length τ) stateLimit (or-right (ltb (length σ) (stateLimit * G .inputs)) (ltb (length τ) stateLimit) tables);
+      system-long = ltb-false (length σ) (n * G .inputs) (or-left (shortStrategy G σ) (ltb (length τ) n) tables);
+      environment-long = ltb-false (length τ) n (or-right (shortStrategy G σ) (ltb (length τ) n) tables);
     }
 
 -- the promise of a refused call, and of a served one

@@ -1,17 +1,15 @@
 -- The calls of the game have one outcome: two runs on one input, from the same old buffers, for which the call's promise holds agree as specs/Agreement.antt
 -- says. The answer, both of the automaton's buffers and every byte of both tables are determined.
 -- Assumes nothing.
-use Prim.Native.Nat.{ℕ, _+_, _*_, _/_, _%_, _<_, _≤_}
+use Prim.Native.Nat.{ℕ, _+_, _*_, _/_, _%_, _<_}
 use mathlib.Core.Path.{_≡_, refl, sym, ap, ap₂, _∙_, subst}
 use mathlib.Core.Bool.{true, false, cond, _||_}
 use mathlib.Core.List.{List}
 use mathlib.Core.Logic.{_⊎_, ⊎-elim}
-use native.Mathlib.Nat.{mod-lt, div-add-mod', mul-le-mul-right}
-use native.Mathlib.Omega.{arith}
+use native.Mathlib.Nat.{mod-lt, div-add-mod', div-lt-iff-lt-mul}
 use lib.Dec.{ltb}
 use lib.ListN.{getD}
 use lib.Pow.{pow-pos}
-use lib.Seq.{ext-getD}
 use Rattle.automaton.specs.Limits.{stateLimit}
 use Rattle.reader.specs.declared.reading.Reading.{Reading}
 use Rattle.reader.specs.declared.refusal.Refusal.{Refusal}
@@ -26,6 +24,7 @@ use Rattle.reader.proofs.Unambiguous.{one-formula, one-reading}
 use Rattle.automaton.specs.Alphabet.{badAlphabet, letterCount}
 use Rattle.automaton.specs.Construction.{CountOf}
 use Rattle.automaton.specs.Condition.{maskOf}
+use Rattle.automaton.proofs.BufferLaws.{one-buffer}
 use Rattle.automaton.proofs.CountOfLaws.{one-refusal}
 use Rattle.automaton.proofs.OneAutomaton.{one-automaton}
 use Rattle.plays.specs.declared.mode.Mode.{Mode}
@@ -33,7 +32,6 @@ use Rattle.plays.specs.Arena.{Arena, arena}
 use Rattle.plays.specs.Strategy.{systemByte, environmentByte}
 use Rattle.plays.specs.Round.{Reaching}
 use Rattle.plays.specs.Entry.{Entries}
-use Rattle.plays.proofs.CaseLaws.{below-or}
 use Rattle.plays.proofs.Determined.{one-winner}
 use Rattle.plays.proofs.RoundLaws.{one-round}
 use Rattle.plays.proofs.WinLaws.{won-by, not-won}
@@ -82,38 +80,28 @@ module _ (mode : Mode) (G : Arena) (some-inputs : 0 < G .inputs) (some-outputs :
       (λ u. ⊎-elim (λ v. absurd (one-winner mode G (G .states) σ′ τ s (v .wins) (u .wins))) (λ v. _⊎_.inr (u, v)) (y .0 .won s h))
       (x .0 .won s h)
 
-  system-byte : (s a : ℕ) → a < G .inputs → systemByte G σ s a ≡ systemByte G σ′ s a
-  system-byte s a h =
-      below-or s (G .states)
-      (λ l. ⊎-elim
+  system-byte : (s a : ℕ) → s < G .states → a < G .inputs → systemByte G σ s a ≡ systemByte G σ′ s a
+  system-byte s a l h =
+      ⊎-elim
       (λ w. one-system mode G closed most σ τ σ′ τ′ (x .1 .entries) second-entries s l (won-by mode G (G .states) σ s some-outputs (w .0 .wins)) a h)
       (λ w. w .0 .other a h ∙ sym (w .1 .other a h))
-      (same-winner s l))
-      (λ e. below-or s stateLimit
-      (λ f. x .0 .system-rest s a e f h ∙ sym (y .0 .system-rest s a e f h))
-      (λ f.
-      let k : stateLimit * G .inputs ≤ s * G .inputs + a = omega (arith, mul-le-mul-right (G .inputs) f) in
-      x .0 .system-beyond (s * G .inputs + a) k ∙ sym (y .0 .system-beyond (s * G .inputs + a) k)))
+      (same-winner s l)
 
-  environment-byte : (s : ℕ) → environmentByte τ s ≡ environmentByte τ′ s
-  environment-byte s =
-      below-or s (G .states)
-      (λ l. ⊎-elim
+  environment-byte : (s : ℕ) → s < G .states → environmentByte τ s ≡ environmentByte τ′ s
+  environment-byte s l =
+      ⊎-elim
       (λ w. w .0 .other ∙ sym (w .1 .other))
       (λ w. one-environment mode G closed most σ τ σ′ τ′ (x .1 .entries) second-entries s l (not-won mode G τ s (w .0 .wins)))
-      (same-winner s l))
-      (λ e. below-or s stateLimit
-      (λ f. x .0 .environment-rest s e f ∙ sym (y .0 .environment-rest s e f))
-      (λ f. x .0 .environment-beyond s f ∙ sym (y .0 .environment-beyond s f)))
+      (same-winner s l)
 
   -- one round number and the same tables
   one-game : (r ≡ r′) × (σ ≡ σ′) × (τ ≡ τ′)
   one-game = (
     same-round,
-    ext-getD 0 σ σ′ (x .0 .system-size ∙ sym (y .0 .system-size))
-        (λ k _. subst (λ (j : ℕ). getD σ j 0 ≡ getD σ′ j 0) (div-add-mod' k (G .inputs))
-        (system-byte (k / G .inputs) (k % G .inputs) (mod-lt k some-inputs))),
-    ext-getD 0 τ τ′ (x .0 .environment-size ∙ sym (y .0 .environment-size)) (λ k _. environment-byte k),
+    one-buffer (G .states * G .inputs) σ₀ σ σ′ (x .0 .system-kept) (y .0 .system-kept)
+        (λ k l. subst (λ (j : ℕ). getD σ j 0 ≡ getD σ′ j 0) (div-add-mod' k (G .inputs))
+        (system-byte (k / G .inputs) (k % G .inputs) (div-lt-iff-lt-mul some-inputs .1 l) (mod-lt k some-inputs))),
+    one-buffer (G .states) τ₀ τ τ′ (x .0 .environment-kept) (y .0 .environment-kept) environment-byte,
   )
 
 -- ---- the follower

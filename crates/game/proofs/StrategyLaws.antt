@@ -9,7 +9,6 @@ use mathlib.Core.Logic.{_⊎_, ⊎-elim}
 use native.Mathlib.Nat.{mul-add-div-right, mul-add-mod-self-right, div-eq-of-lt, mod-eq-of-lt}
 use native.Mathlib.Omega.{arith}
 use lib.ListN.{getD}
-use Rattle.automaton.specs.Limits.{stateLimit}
 use Rattle.plays.specs.Arena.{Arena}
 use Rattle.plays.specs.Strategy.{systemByte, environmentByte, SystemWins}
 use Rattle.plays.specs.Round.{Reaching, RoundNumber}
@@ -36,10 +35,6 @@ row-div P s x h =
 row-mod : (P s x : ℕ) → x < P → (s * P + x) % P ≡ x
 row-mod P s x h = mul-add-mod-self-right s P x ∙ mod-eq-of-lt h
 
--- only states have a rank
-no-rank-beyond : {G : Arena} {player steady : Bool} {most : ℕ} (r : List ℕ) → Ranked G player steady most r → (s : ℕ) → G .states ≤ s → getD r s 0 ≡ 0
-no-rank-beyond r rk s h = zero-or (getD r s 0) (λ e. e) (λ p. let l = rk .within s p in omega arith)
-
 -- a table that goes by the near ranks on a state that has one, else by the far ones, wins wherever there is a far one; when fair they are the same
 two-ranks-win : (fair : Bool) (G : Arena) (m : ℕ) (σ near far : List ℕ) → Ranked G true fair m near → Ranked G true fair (G .states) far
     → ((t : ℕ) → getD far t 0 ≤ G .states) → (fair ≡ true → near ≡ far)
@@ -53,27 +48,27 @@ two-ranks-win true G m σ near far nr fr bound same by-near by-far s w =
 two-ranks-win false G m σ near far nr fr bound same by-near by-far s w =
     mixed-wins G m (G .states) σ near far (nr .within) (fr .within) by-near by-far s w
 
-module _ {fair : Bool} {G : Arena} {start m r : ℕ} {near system environment σ₀ τ₀ σ τ : List ℕ} (small : G .states ≤ stateLimit)
+module _ {fair : Bool} {G : Arena} {start m r : ℕ} {near system environment σ₀ τ₀ σ τ : List ℕ}
     (solved : Solves fair G start near system environment m r) (sf : SystemFilled fair G m near system σ₀ σ)
     (ef : EnvironmentFilled fair G environment τ₀ τ) where
-  system-at : (s x : ℕ) → s < stateLimit → x < G .inputs → MixedByte fair G m near system s x (systemByte G σ s x)
+  system-at : (s x : ℕ) → s < G .states → x < G .inputs → MixedByte fair G m near system s x (systemByte G σ s x)
   system-at s x hs hx =
       subst₂ (λ (a b : ℕ). MixedByte fair G m near system a b (systemByte G σ s x)) (row-div (G .inputs) s x hx) (row-mod (G .inputs) s x hx)
-      (sf .byte (s * G .inputs + x) (row-below stateLimit (G .inputs) s x hs hx))
+      (sf .byte (s * G .inputs + x) (row-below (G .states) (G .inputs) s x hs hx))
 
   near-lowest : (s : ℕ) → 0 < getD near s 0 → (x : ℕ) → x < G .inputs → Lowest (AllowedOutput fair G m near s x) (systemByte G σ s x)
-  near-lowest s p x l = system-at s x (let q : s < stateLimit = omega (arith, solved .near-ranked .within s p) in q) l .by-near p
+  near-lowest s p x l = system-at s x (solved .near-ranked .within s p) l .by-near p
 
   far-lowest : (s : ℕ) → getD near s 0 ≡ 0 → 0 < getD system s 0 → (x : ℕ) → x < G .inputs
       → Lowest (AllowedOutput fair G (G .states) system s x) (systemByte G σ s x)
   far-lowest s e p x l =
-      system-at s x (let q : s < stateLimit = omega (arith, solved .found .ranking .of-system .within s p) in q) l .by-far e .lowest p
+      system-at s x (solved .found .ranking .of-system .within s p) l .by-far e .lowest p
 
   input-lowest : (s : ℕ) → 0 < getD environment s 0 → Lowest (AllowedInput fair G environment s) (environmentByte τ s)
-  input-lowest s p = ef .byte s (let q : s < stateLimit = omega (arith, solved .found .ranking .of-environment .within s p) in q) .lowest p
+  input-lowest s p = ef .byte s (solved .found .ranking .of-environment .within s p) .lowest p
 
   -- where the system has no rank its byte is no output
-  no-output-at : (s x : ℕ) → s < stateLimit → x < G .inputs → getD system s 0 ≡ 0 → systemByte G σ s x ≡ noMove
+  no-output-at : (s x : ℕ) → s < G .states → x < G .inputs → getD system s 0 ≡ 0 → systemByte G σ s x ≡ noMove
   no-output-at s x hs hx e =
       system-at s x hs hx .by-far (zero-or (getD near s 0) (λ d. d) (λ p. let w = solved .near-won s p in omega arith)) .none e
 
@@ -85,7 +80,7 @@ module _ {fair : Bool} {G : Arena} {start m r : ℕ} {near system environment σ
         wins = two-ranks-win fair G m σ near system (solved .near-ranked) (ranking .of-system) (ranking .system-bound) (solved .near-fair)
             (λ t w x h. near-lowest t w x h .has) (λ t e w x h. far-lowest t e w x h .has) s p;
         bytes = λ x h. zero-or (getD near s 0) (λ e. far-lowest s e p x h .has .0) (λ q. near-lowest s q x h .has .0);
-        other = ef .byte s (omega arith) .none (⊎-elim (λ w. w .1) (λ w. absurd (let z : ⊥ = omega (arith, w .0) in z)) (ranking .each s l));
+        other = ef .byte s l .none (⊎-elim (λ w. w .1) (λ w. absurd (let z : ⊥ = omega (arith, w .0) in z)) (ranking .each s l));
       }
 
   environment-state : (s : ℕ) → 0 < getD environment s 0 → EnvironmentState (modeOf fair) G σ τ s
@@ -95,7 +90,7 @@ module _ {fair : Bool} {G : Arena} {start m r : ℕ} {near system environment σ
       record {
         wins = environment-wins fair G τ environment (ranking .environment-bound) (λ t w. input-lowest t w .has) s p;
         byte = input-lowest s p .has .0;
-        other = λ x h. no-output-at s x (omega arith) h
+        other = λ x h. no-output-at s x l h
             (⊎-elim (λ w. absurd (let z : ⊥ = omega (arith, w .1) in z)) (λ w. w .0) (ranking .each s l));
       }
 
@@ -104,12 +99,8 @@ module _ {fair : Bool} {G : Arena} {start m r : ℕ} {near system environment σ
       let ranking = solved .found .ranking in
       record {
         won = λ s l. ⊎-elim (λ w. _⊎_.inl (system-state s (w .0))) (λ w. _⊎_.inr (environment-state s (w .1))) (ranking .each s l);
-        system-rest = λ s x h l k. no-output-at s x l k (no-rank-beyond system (ranking .of-system) s h);
-        system-beyond = sf .beyond;
-        system-size = sf .size;
-        environment-rest = λ s h l. ef .byte s l .none (no-rank-beyond environment (ranking .of-environment) s h);
-        environment-beyond = ef .beyond;
-        environment-size = ef .size;
+        system-kept = sf .kept;
+        environment-kept = ef .kept;
       }
 
   -- from the start the near ranks alone count, and they are within the round number

@@ -1,11 +1,7 @@
 -- `game::given::short_tables` meets its contract: the two tests.
 -- Assumes nothing.
 use borrow.Author.Needs.{needs}
-use Prim.Native.Nat.{_*_}
-use lib.ListN.{length}
-use denote.Ref.{now}
-use borrow.Author.Tests.{lt-ltb, le-ltb}
-use Rattle.automaton.specs.Limits.{stateLimit}
+use mathlib.Core.Path.{sym, _∙_}
 use Rattle.game.proofs.given.short_tables.Statement.{statement}
 use Rattle.game.proofs.given.short_tables.Tie as tie
 
@@ -13,6 +9,6 @@ pub short-tables-spec : {M : Type 1} → statement M
 short-tables-spec =
     tie.close
     (tie.spec
-    (λ c. search needs)
-    (λ c. let a = c .before .before .args in rw (lt-ltb (length (now (a .system))) (stateLimit * a .sizes .inputs) (c .if1 .taken)))
-    (λ c. let a = c .before .before .args in rw (le-ltb (length (now (a .system))) (stateLimit * a .sizes .inputs) (c .if1 .left))))
+    (λ c κs. search needs)
+    (λ c. rw (sym (c .before .short-strategy .ensures) ∙ c .if1 .taken))
+    (λ c. rw (sym (c .before .before .short-strategy .ensures) ∙ c .before .if1 .left)))

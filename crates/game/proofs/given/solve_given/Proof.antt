@@ -6,7 +6,6 @@ use mathlib.Core.List.{List}
 use Prim.Native.Nat.{ℕ, _*_, _<_, _≤_}
 use lib.ListN.{length}
 use denote.Ref.{now}
-use Rattle.automaton.specs.Limits.{stateLimit}
 use Rattle.reader.specs.declared.refusal.Refusal.{Refusal}
 use Rattle.reader.specs.declared.refusal.Refusal.the-variants.{Nothing}
 use Rattle.game.specs.declared.arena.Game.{Game}
@@ -94,7 +93,7 @@ solve-given-spec =
     let w = accepts k in
     subst (λ (g : Game). Valid (arenaOf g (now (a .transitions)) (now (a .accepting)))
     × ((a .start < g .states)
-    × ((0 < g .inputs) × (0 < g .outputs) × (stateLimit * g .inputs ≤ length (now (a .system))) × (stateLimit ≤ length (now (a .environment))))))
+    × ((0 < g .inputs) × (0 < g .outputs) × (g .states * g .inputs ≤ length (now (a .system))) × (g .states ≤ length (now (a .environment))))))
     (sym (c .before .before .game-of .ensures))
     (w .valid, (w .start-fits, (w .inputs-some, w .outputs-some, w .system-long, w .environment-long))))
     (λ c κs. search needs)

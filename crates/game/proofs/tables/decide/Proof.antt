@@ -22,4 +22,4 @@ decide-spec =
     let f = c .before .before .before .before .before in
     let s = f .before .before .before .before .before .before .before .before .before in
     let p = s .before .before .before .before .before .pre in
-    filled (p .0 .moving .states-fit) (s .solve .ensures) (f .fill .ensures .0) (f .fill .ensures .1) (p .0) (p .1 .1 .1)))
+    filled (s .solve .ensures) (f .fill .ensures .0) (f .fill .ensures .1) (p .0) (p .1 .1 .1)))

@@ -8,7 +8,6 @@ use Prim.Native.Nat.{ℕ, _-_, _<_, _≤_}
 use borrow.Author.Count.{below-none}
 use lib.ListN.{length, getD, length-set}
 use denote.Ref.{now}
-use Rattle.automaton.specs.Limits.{stateLimit}
 use Rattle.game.specs.inner.Game.{arenaOf}
 use Rattle.game.specs.inner.Bytes.{EnvironmentByte}
 use Rattle.game.proofs.TableLaws.{fill-below, fill-rest}
@@ -16,14 +15,14 @@ use Rattle.game.proofs.tables.fill_environment.Statement.{statement}
 use Rattle.game.proofs.tables.fill_environment.Tie as tie
 
 abbrev Inv-loop : tie.InvT-loop
-Inv-loop g transitions accepting ranks environment₀ s₀ environment s =
-    (s ≤ stateLimit)
+Inv-loop g transitions accepting ranks environment₀ states s₀ environment s =
+    (s ≤ g .states)
     × ((k : ℕ) → k < s → EnvironmentByte (g .fair) (arenaOf g transitions accepting) ranks k (getD environment k 0))
     × ((k : ℕ) → s ≤ k → getD environment k 0 ≡ getD environment₀ k 0)
     × (length environment ≡ length environment₀)
 
 abbrev μ-loop : tie.MeasureT-loop
-μ-loop g transitions accepting ranks environment₀ s₀ environment s = stateLimit - s
+μ-loop g transitions accepting ranks environment₀ states s₀ environment s = g .states - s
 
 pub fill-environment-spec : {M : Type 1} → statement M
 fill-environment-spec =
@@ -34,7 +33,7 @@ fill-environment-spec =
     (λ c. (search needs, below-none _, (λ k _. refl), refl))
     (λ c κs.
     let z = c .before .before .before .before .before in
-    (z .pre .0, (z .pre .1 .0, c .loop-test .taken)))
+    (z .pre .0, (z .pre .1 .0, omega (arith, z .pre .0 .moving .states-fit))))
     (λ c. omega (arith, c .before .before .before .before .before .before .pre .1 .1))
     (λ c. omega arith)
     (λ c. omega arith)
@@ -53,4 +52,4 @@ fill-environment-spec =
     (λ c. c .before .loop .inv .3)
     (λ c.
     let l = c .before .loop in
-    record { byte = λ s h. l .inv .1 s (omega arith); beyond = λ k h. l .inv .2 k (omega arith); size = l .inv .3 }))
+    record { byte = λ s h. l .inv .1 s (omega arith); kept = record { size = l .inv .3; beyond = λ k h. l .inv .2 k (omega arith) } }))

@@ -8,9 +8,8 @@ use Prim.Native.Nat.{ℕ, _*_, _-_, _/_, _%_, _<_, _≤_}
 use borrow.Author.Count.{below-none}
 use lib.ListN.{length, getD, length-set}
 use denote.Ref.{now}
-use Rattle.automaton.specs.Limits.{stateLimit}
 use Rattle.game.specs.inner.Game.{arenaOf}
-use native.Mathlib.Nat.{div-lt-iff-lt-mul, mod-lt}
+use native.Mathlib.Nat.{div-lt-iff-lt-mul, mod-lt, mul-le-mul}
 use Rattle.game.specs.inner.Bytes.{MixedByte}
 use Rattle.game.proofs.TableLaws.{fill-below, fill-rest}
 use Rattle.game.proofs.tables.fill_system.Statement.{statement}
@@ -18,13 +17,13 @@ use Rattle.game.proofs.tables.fill_system.Tie as tie
 
 abbrev Inv-loop : tie.InvT-loop
 Inv-loop g transitions accepting m near far system₀ inputs total k₀ system k =
-    (k ≤ stateLimit * g .inputs)
+    (k ≤ g .states * g .inputs)
     × ((j : ℕ) → j < k → MixedByte (g .fair) (arenaOf g transitions accepting) m near far (j / g .inputs) (j % g .inputs) (getD system j 0))
     × ((j : ℕ) → k ≤ j → getD system j 0 ≡ getD system₀ j 0)
     × (length system ≡ length system₀)
 
 abbrev μ-loop : tie.MeasureT-loop
-μ-loop g transitions accepting m near far system₀ inputs total k₀ system k = stateLimit * g .inputs - k
+μ-loop g transitions accepting m near far system₀ inputs total k₀ system k = g .states * g .inputs - k
 
 pub fill-system-spec : {M : Type 1} → statement M
 fill-system-spec =
@@ -32,19 +31,20 @@ fill-system-spec =
     (tie.spec
     Inv-loop
     μ-loop
-    (λ c. omega (arith, c .before .before .before .pre .0 .moving .inputs-fit))
+    (λ c. let m = c .before .before .before .before .pre .0 .moving in omega (arith, mul-le-mul (m .states-fit) (m .inputs-fit)))
     (λ c. (search needs, below-none _, (λ k _. refl), refl))
-    (λ c. c .before .before .before .before .before .pre .1 .1 .1 .0)
-    (λ c. c .before .before .before .before .before .pre .1 .1 .1 .0)
+    (λ c. c .before .before .before .before .before .before .pre .1 .1 .1 .0)
+    (λ c. c .before .before .before .before .before .before .pre .1 .1 .1 .0)
     (λ c κs.
-    let z = c .before .before .before .before .before in
+    let z = c .before .before .before .before .before .before in
     let p = z .pre .1 .1 .1 .0 in
-    (z .pre .0, (z .pre .1 .0, (z .pre .1 .1 .0, (div-lt-iff-lt-mul p .1 (c .loop-test .taken), mod-lt (c .before .loop .k) p)))))
-    (λ c. omega (arith, c .before .before .before .before .before .before .pre .1 .1 .1))
-    (λ c. omega (arith, c .before .before .before .before .before .before .pre .0 .moving .inputs-fit))
+    let s : c .before .loop .k / z .args .g .inputs < z .args .g .states = div-lt-iff-lt-mul p .1 (c .loop-test .taken) in
+    (z .pre .0, (z .pre .1 .0, (z .pre .1 .1 .0, (omega (arith, z .pre .0 .moving .states-fit), mod-lt (c .before .loop .k) p)))))
+    (λ c. omega (arith, c .before .before .before .before .before .before .before .pre .1 .1 .1))
+    (λ c. let m = c .before .before .before .before .before .before .before .pre .0 .moving in omega (arith, mul-le-mul (m .states-fit) (m .inputs-fit)))
     (λ c. omega arith)
     (λ c.
-    let z = c .before .before .before .before .before .before in
+    let z = c .before .before .before .before .before .before .before in
     let l = c .before .before .loop in
     let b = c .mixed-byte in
     let fits : l .k < length (l .system) = omega (arith, z .pre .1 .1 .1) in
@@ -58,4 +58,4 @@ fill-system-spec =
     (λ c. c .before .loop .inv .3)
     (λ c.
     let l = c .before .loop in
-    record { byte = λ k h. l .inv .1 k (omega arith); beyond = λ k h. l .inv .2 k (omega arith); size = l .inv .3 }))
+    record { byte = λ k h. l .inv .1 k (omega arith); kept = record { size = l .inv .3; beyond = λ k h. l .inv .2 k (omega arith) } }))

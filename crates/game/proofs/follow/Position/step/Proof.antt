@@ -12,8 +12,7 @@ use borrow.Author.Tests.{ltb-false}
 use Rattle.automaton.specs.Limits.{stateLimit}
 use Rattle.plays.specs.Arena.{Arena}
 use Rattle.game.specs.inner.Game.{arenaAt}
-use Rattle.game.specs.Given.{shortRead}
-use Rattle.game.specs.Follower.{shortStrategy}
+use Rattle.game.specs.Given.{shortRead, shortStrategy}
 use Rattle.game.proofs.IndexLaws.{row-below}
 use Rattle.game.proofs.FollowLaws.{read-refused, table-refused, state-refused, input-refused, no-row, moved}
 use Rattle.game.proofs.follow.Position.step.Statement.{statement}

@@ -1,10 +1,10 @@
--- `game::follow::short_strategy` meets its contract: the test; the product is small.
+-- `game::checks::short_strategy` meets its contract: the test; the product is small.
 -- Assumes nothing.
 use native.Mathlib.Omega.{arith}
 use borrow.Author.Needs.{needs}
 use native.Mathlib.Nat.{mul-le-mul}
-use Rattle.game.proofs.follow.short_strategy.Statement.{statement}
-use Rattle.game.proofs.follow.short_strategy.Tie as tie
+use Rattle.game.proofs.checks.short_strategy.Statement.{statement}
+use Rattle.game.proofs.checks.short_strategy.Tie as tie
 
 pub short-strategy-spec : {M : Type 1} → statement M
 short-strategy-spec =

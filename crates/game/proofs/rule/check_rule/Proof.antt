@@ -12,7 +12,7 @@ use Rattle.game.proofs.rule.check_rule.Tie as tie
 
 -- the tests that were passed
 abbrev begin₁ : tie.Else1 → tie.Start
-begin₁ c = c .before .before .before .before .before .before .before .before
+begin₁ c = c .before .before .before .before
 
 fits : (c : tie.Else1) → badAlphabet (begin₁ c .args .i) (begin₁ c .args .o) ≡ false
 fits c = sym (c .before .bad-alphabet .ensures) ∙ c .if1 .left
@@ -31,7 +31,7 @@ bad-alphabet-requires c κs = search needs
 
 returns : tie.Need-returns
 returns c =
-    let z = c .before .before .before .before .before .before .before .before in
+    let z = c .before .before .before .before in
     let a = z .args in
     by-alphabet (a .i) (a .o) (now (a .rule)) (now (a .condition)) 0 (sym (c .before .bad-alphabet .ensures) ∙ c .if1 .taken)
 

@@ -23,6 +23,7 @@ pub mod CheckLaws
 pub mod RefusalLaws
 pub mod GivenLaws
 pub mod FollowLaws
+pub mod FirstRefusal
 pub mod RuleLaws
 pub mod RuleCheckLaws
 pub mod RuleCallLaws

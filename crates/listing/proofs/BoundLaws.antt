@@ -2,7 +2,7 @@
 -- Assumes nothing.
 use Prim.Native.Nat.{ℕ, zero, suc, _^_, _≤_, _<_}
 use mathlib.Core.Path.{_≡_, refl, sym, ap, subst, _∙_}
-use mathlib.Core.Bool.{Bool, true, false, cond, _||_}
+use mathlib.Core.Bool.{false}
 use mathlib.Core.Logic.{_⊎_, ⊎-elim}
 use mathlib.Core.List.{List}
 use native.Mathlib.Nat.{min-eq-left}
@@ -14,14 +14,14 @@ use lib.Seq.{take-all, take-append-seam}
 use borrow.Author.Tests.{ltb-false}
 use Rattle.plays.specs.declared.mode.Mode.{Mode}
 use Rattle.reader.specs.declared.reading.Reading.{Reading}
-use Rattle.reader.specs.declared.reading.Reading.the-variants.{Good, TooLong, Bad, TooManyNodes, TooManyOperators}
+use Rattle.reader.specs.declared.reading.Reading.the-variants.{Bad}
 use Rattle.reader.specs.declared.refusal.Refusal.{Refusal}
 use Rattle.reader.specs.declared.refusal.Refusal.the-variants.{Nothing, Alphabet, TextLength, Buffer, RuleText, RuleNodes, RuleOperators}
 use Rattle.reader.specs.declared.refusal.Refusal.the-variants.{ConditionText, ConditionNodes, StateCount, GivenCount, Move, State, Value}
 use Rattle.reader.specs.declared.marks.Kind.{Kind}
-use Rattle.reader.specs.Limits.{textLimit, tooLong}
+use Rattle.reader.specs.Limits.{textLimit}
 use Rattle.reader.specs.Reading.{ReadingOf}
-use Rattle.reader.specs.Refusal.{numberOf, placeOf, afterRule, afterCondition}
+use Rattle.reader.specs.Refusal.{numberOf, placeOf}
 use Rattle.reader.proofs.BoolLaws.{or-left, or-right}
 use Rattle.automaton.specs.Alphabet.{badAlphabet}
 use Rattle.automaton.specs.Limits.{stateLimit, numberLimit}
@@ -30,13 +30,14 @@ use Rattle.plays.specs.Arena.{arena}
 use Rattle.plays.proofs.RoundLaws.{round-bound}
 use Rattle.game.specs.declared.answer.Answer.{Answer}
 use Rattle.game.specs.Answer.{verdictOf}
-use Rattle.game.specs.Rule.{Buffers, shortBuffers, ruleRefusal, RuleServed, RuleSolved}
+use Rattle.game.specs.Rule.{Buffers, RuleServed, RuleSolved}
 use Rattle.game.proofs.AnswerLaws.{verdict-can}
+use Rattle.game.proofs.FirstRefusal.{first-has}
 use Rattle.game.proofs.RuleLaws.{some-state}
 use Rattle.listing.specs.Listing.{listing, stateLine, canWord, cannotWord}
 use Rattle.listing.specs.Promise.{outputSize, Prints, Listed}
 use Rattle.listing.proofs.LengthLaws.{system-length, environment-length, line-length, verdict-length, refusal-length}
-use Rattle.listing.proofs.PromiseLaws.{served-states, served-or-refused}
+use Rattle.listing.proofs.PromiseLaws.{served-tests, served-or-refused}
 
 number-small : (x : Refusal) → numberOf x ≤ 14
 number-small Nothing = omega arith
@@ -61,49 +62,33 @@ place-within i kind text ρ h k e =
     let p : ReadingOf i kind text (Bad k) = subst (λ (x : Reading). ReadingOf i kind text x) e h in
     omega (arith, p .0, p .1 .within)
 
-place-small : (a b c d : Bool) (n : ℕ) (ρ κ : Reading) → ((k : ℕ) → ρ ≡ Bad k → k ≤ textLimit) → ((k : ℕ) → κ ≡ Bad k → k ≤ textLimit)
-    → placeOf (cond a Alphabet (cond b TextLength (afterRule ρ (afterCondition κ (cond c StateCount (cond d (Buffer n) Nothing)))))) ≤ textLimit
-place-small true b c d n ρ κ f g = omega arith
-place-small false true c d n ρ κ f g = omega arith
-place-small false false true d n (Good l) (Good m) f g = omega arith
-place-small false false false true n (Good l) (Good m) f g = omega arith
-place-small false false false false n (Good l) (Good m) f g = omega arith
-place-small false false c d n (Good l) TooLong f g = omega arith
-place-small false false c d n (Good l) (Bad k) f g = g k refl
-place-small false false c d n (Good l) TooManyNodes f g = omega arith
-place-small false false c d n (Good l) TooManyOperators f g = omega arith
-place-small false false c d n TooLong κ f g = omega arith
-place-small false false c d n (Bad k) κ f g = f k refl
-place-small false false c d n TooManyNodes κ f g = omega arith
-place-small false false c d n TooManyOperators κ f g = omega arith
-
-alphabet-served : (a : Bool) (x : Refusal) → numberOf (cond a Alphabet x) ≡ 0 → a ≡ false
-alphabet-served true x e = absurd (omega arith)
-alphabet-served false x e = refl
-
 module _ {mode : Mode} {i o : ℕ} {rule condition : List ℕ} {old new : Buffers} {r : Answer} (m : RuleSolved mode i o rule condition old new r) where
   refusal-place : placeOf (m .refusal) ≤ textLimit
-  unfolding ruleRefusal
   refusal-place =
       subst (λ (x : Refusal). placeOf x ≤ textLimit) (sym (m .first))
-      (place-small (badAlphabet i o) (tooLong rule || tooLong condition) (ltb stateLimit (m .states)) (shortBuffers i o (m .states) old) (m .states)
-      (m .reading) (m .condition-reading)
-      (place-within i _ rule (m .reading) (m .read))
-      (place-within i _ condition (m .condition-reading) (m .condition-read)))
+      (first-has (λ x. placeOf x ≤ textLimit) i o rule condition old (m .states) (m .reading) (m .condition-reading)
+      record {
+        alphabet = omega arith;
+        text-length = omega arith;
+        rule-text = place-within i _ rule (m .reading) (m .read);
+        rule-nodes = omega arith;
+        rule-operators = omega arith;
+        condition-text = place-within i _ condition (m .condition-reading) (m .condition-read);
+        condition-nodes = omega arith;
+        count = λ _. omega arith;
+        buffer = λ _ _ _. omega arith;
+        nothing = λ _ _. omega arith;
+      })
 
   module _ (z : numberOf (m .refusal) ≡ 0) where
-    small : badAlphabet i o ≡ false
-    unfolding ruleRefusal
-    small = alphabet-served (badAlphabet i o) _ (ap numberOf (sym (m .first)) ∙ z)
+    passed : (badAlphabet i o ≡ false) × (m .states ≤ stateLimit)
+    passed = served-tests i o rule condition old (m .reading) (m .condition-reading) (m .states) (ap numberOf (sym (m .first)) ∙ z)
 
     few-inputs : 2 ^ i ≤ numberLimit
-    few-inputs = pow-mono {j = 4} (ltb-false 4 i (or-left (ltb 4 i) (ltb 4 o) small))
+    few-inputs = pow-mono {j = 4} (ltb-false 4 i (or-left (ltb 4 i) (ltb 4 o) (passed .0)))
 
     few-outputs : 2 ^ o ≤ numberLimit
-    few-outputs = pow-mono {j = 4} (ltb-false 4 o (or-right (ltb 4 i) (ltb 4 o) small))
-
-    few-states : m .states ≤ stateLimit
-    few-states = served-states i o rule condition old (m .reading) (m .condition-reading) (m .states) (ap numberOf (sym (m .first)) ∙ z)
+    few-outputs = pow-mono {j = 4} (ltb-false 4 o (or-right (ltb 4 i) (ltb 4 o) (passed .0)))
 
     -- the round number is at most n, since the system's table does with n
     served-round : (k : ℕ) → RuleServed mode i o rule condition old new (m .states) k → k ≤ m .states
@@ -118,7 +103,7 @@ module _ {mode : Mode} {i o : ℕ} {rule condition : List ℕ} {old new : Buffer
     served-line v s h =
         let p = few-inputs in
         let q = few-outputs in
-        let l = few-states in
+        let l = (passed .1) in
         line-length (2 ^ i) (new .accepting) (new .system) (new .environment) s (omega arith)
         (⊎-elim
         (λ w. system-length (2 ^ i) p (new .system) (new .environment) s (w .other) (λ x g. let b = w .bytes x g in omega arith))
@@ -127,11 +112,11 @@ module _ {mode : Mode} {i o : ℕ} {rule condition : List ℕ} {old new : Buffer
 
     served-length : (k : ℕ) → RuleServed mode i o rule condition old new (m .states) k → length (listing i new (verdictOf (m .states) k)) ≤ outputSize
     served-length zero v =
-        verdict-length (2 ^ i) (new .accepting) (new .system) (new .environment) cannotWord (m .states) 0 (omega arith) few-states (omega arith)
+        verdict-length (2 ^ i) (new .accepting) (new .system) (new .environment) cannotWord (m .states) 0 (omega arith) (passed .1) (omega arith)
         (served-line v)
     served-length (suc k) v =
         rw (verdict-can (m .states) (suc k) (λ e. omega arith))
-        (verdict-length (2 ^ i) (new .accepting) (new .system) (new .environment) canWord (m .states) (suc k) (omega arith) few-states
+        (verdict-length (2 ^ i) (new .accepting) (new .system) (new .environment) canWord (m .states) (suc k) (omega arith) (passed .1)
         (served-round (suc k) v) (served-line v))
 
   pub listing-length : length (listing i new r) ≤ outputSize

@@ -1,30 +1,33 @@
--- The promise from its parts (specs/Promise.antt): a refusal by 14, and the listing of the rule call's answer; an answer has no more states than the limit.
+-- The promise from its parts (specs/Promise.antt): a refusal by 14, and the listing of the rule call's answer; an answer has no more states than the limit,
+-- and none is refused by 3.
 -- Assumes nothing.
-use Prim.Native.Nat.{ℕ, _+_, _-_, _≤_, min}
+use Prim.Native.Nat.{ℕ, _+_, _-_, _*_, _^_, _≤_, min}
 use mathlib.Core.Path.{_≡_, refl, sym, ap, subst, _∙_}
-use mathlib.Core.Bool.{Bool, true, false, cond, _||_}
+use mathlib.Core.Bool.{true, false}
 use mathlib.Core.Logic.{_⊎_, ⊎-elim}
 use mathlib.Core.List.{List, _++_}
+use native.Mathlib.Nat.{mul-le-mul}
 use native.Mathlib.Omega.{arith}
 use lib.Dec.{eqb, ltb}
-use lib.ListN.{length, take, drop}
-use borrow.Author.Tests.{eqb-true, eqb-false, ltb-false}
+use lib.ListN.{length, take, drop, replicate, length-replicate}
+use lib.Pow.{pow-mono}
+use borrow.Author.Tests.{eqb-true, eqb-false, le-ltb}
 use Rattle.plays.specs.declared.mode.Mode.{Mode}
 use Rattle.reader.specs.declared.reading.Reading.{Reading}
-use Rattle.reader.specs.declared.reading.Reading.the-variants.{Good, TooLong, Bad, TooManyNodes, TooManyOperators}
 use Rattle.reader.specs.declared.refusal.Refusal.{Refusal}
 use Rattle.reader.specs.declared.refusal.Refusal.the-variants.{Nothing, Alphabet, TextLength, Buffer, RuleText, RuleNodes, RuleOperators}
 use Rattle.reader.specs.declared.refusal.Refusal.the-variants.{ConditionText, ConditionNodes, StateCount, GivenCount, Move, State, Value}
-use Rattle.reader.specs.Limits.{tooLong}
-use Rattle.reader.specs.Refusal.{numberOf, neededOf, afterRule, afterCondition}
+use Rattle.reader.specs.Refusal.{numberOf, neededOf}
 use Rattle.reader.proofs.BoolLaws.{on, clash}
-use Rattle.automaton.specs.Alphabet.{badAlphabet}
-use Rattle.automaton.specs.Limits.{stateLimit}
+use Rattle.automaton.specs.Alphabet.{badAlphabet, letterCount}
+use Rattle.automaton.specs.Limits.{stateLimit, numberLimit, letterLimit}
+use Rattle.automaton.proofs.AlphabetLaws.{inputs-fit, outputs-fit}
 use Rattle.game.specs.declared.answer.Answer.{Answer}
 use Rattle.game.specs.declared.answer.Answer.the-variants.{Can, Cannot, Refused}
-use Rattle.game.specs.Answer.{answerStates}
+use Rattle.game.specs.Answer.{answerNumber, answerStates}
 use Rattle.game.specs.Rule.{Buffers, buffers, shortBuffers, ruleRefusal, RuleSolved}
 use Rattle.game.proofs.AnswerLaws.{verdict-states}
+use Rattle.game.proofs.FirstRefusal.{first-has}
 use Rattle.listing.specs.Listing.{listing, malformed}
 use Rattle.listing.specs.Promise.{lent, Listed}
 use Rattle.listing.specs.inner.Rendering.{listingOf}
@@ -50,44 +53,76 @@ no-number (Move k) e = absurd (omega arith)
 no-number State e = absurd (omega arith)
 no-number (Value k) e = absurd (omega arith)
 
--- too many states are refused, whatever comes before, and no refusal needs room for more states than the limit
-over-refused : (a b : Bool) (ρ κ : Reading) → numberOf (cond a Alphabet (cond b TextLength (afterRule ρ (afterCondition κ StateCount)))) ≡ 0 → ⊥
-over-refused true b ρ κ e = omega arith
-over-refused false true ρ κ e = omega arith
-over-refused false false (Good n) (Good m) e = omega arith
-over-refused false false (Good n) TooLong e = omega arith
-over-refused false false (Good n) (Bad m) e = omega arith
-over-refused false false (Good n) TooManyNodes e = omega arith
-over-refused false false (Good n) TooManyOperators e = omega arith
-over-refused false false TooLong κ e = omega arith
-over-refused false false (Bad k) κ e = omega arith
-over-refused false false TooManyNodes κ e = omega arith
-over-refused false false TooManyOperators κ e = omega arith
-
-needed-small : (a b c d : Bool) (n : ℕ) (ρ κ : Reading) → (c ≡ false → n ≤ stateLimit)
-    → neededOf (cond a Alphabet (cond b TextLength (afterRule ρ (afterCondition κ (cond c StateCount (cond d (Buffer n) Nothing)))))) ≤ stateLimit
-needed-small true b c d n ρ κ h = omega arith
-needed-small false true c d n ρ κ h = omega arith
-needed-small false false true d n (Good l) (Good m) h = omega arith
-needed-small false false false true n (Good l) (Good m) h = h refl
-needed-small false false false false n (Good l) (Good m) h = omega arith
-needed-small false false c d n (Good l) TooLong h = omega arith
-needed-small false false c d n (Good l) (Bad k) h = omega arith
-needed-small false false c d n (Good l) TooManyNodes h = omega arith
-needed-small false false c d n (Good l) TooManyOperators h = omega arith
-needed-small false false c d n TooLong κ h = omega arith
-needed-small false false c d n (Bad k) κ h = omega arith
-needed-small false false c d n TooManyNodes κ h = omega arith
-needed-small false false c d n TooManyOperators κ h = omega arith
-
-pub served-states :
+-- a call that is served has passed the tests of i, o and n
+pub served-tests :
     (i o : ℕ) (rule condition : List ℕ) (old : Buffers) (ρ κ : Reading) (n : ℕ) → numberOf (ruleRefusal i o rule condition old ρ κ n) ≡ 0
-    → n ≤ stateLimit
-unfolding ruleRefusal
-served-states i o rule condition old ρ κ n e =
-    on (ltb stateLimit n)
-    (λ t. absurd (over-refused (badAlphabet i o) (tooLong rule || tooLong condition) ρ κ (rw t at e)))
-    (λ f. ltb-false stateLimit n f)
+    → (badAlphabet i o ≡ false) × (n ≤ stateLimit)
+served-tests i o rule condition old ρ κ n =
+    first-has (λ x. numberOf x ≡ 0 → (badAlphabet i o ≡ false) × (n ≤ stateLimit)) i o rule condition old n ρ κ
+    record {
+      alphabet = λ e. absurd (omega arith);
+      text-length = λ e. absurd (omega arith);
+      rule-text = λ k _ e. absurd (omega arith);
+      rule-nodes = λ e. absurd (omega arith);
+      rule-operators = λ e. absurd (omega arith);
+      condition-text = λ k _ e. absurd (omega arith);
+      condition-nodes = λ e. absurd (omega arith);
+      count = λ _ e. absurd (omega arith);
+      buffer = λ _ _ _ e. absurd (omega arith);
+      nothing = λ a l _. (a, l);
+    }
+
+-- no refusal needs room for more states than the limit
+needed-small : (i o : ℕ) (rule condition : List ℕ) (old : Buffers) (ρ κ : Reading) (n : ℕ) → neededOf (ruleRefusal i o rule condition old ρ κ n) ≤ stateLimit
+needed-small i o rule condition old ρ κ n =
+    first-has (λ x. neededOf x ≤ stateLimit) i o rule condition old n ρ κ
+    record {
+      alphabet = omega arith;
+      text-length = omega arith;
+      rule-text = λ k _. omega arith;
+      rule-nodes = omega arith;
+      rule-operators = omega arith;
+      condition-text = λ k _. omega arith;
+      condition-nodes = omega arith;
+      count = λ _. omega arith;
+      buffer = λ _ l _. l;
+      nothing = λ _ _. omega arith;
+    }
+
+-- zeros of a size are not too few for a share that is no larger
+zeros-enough : (share size : ℕ) → share ≤ size → ltb (length (replicate {A = ℕ} size 0)) share ≡ false
+zeros-enough share size h = le-ltb (length (replicate {A = ℕ} size 0)) share (rw (length-replicate {A = ℕ} size 0) h)
+
+-- the buffers that the program lends have room for every automaton within the limit
+lent-enough : (i o n : ℕ) → badAlphabet i o ≡ false → n ≤ stateLimit → shortBuffers i o n lent ≡ false
+unfolding lent
+lent-enough i o n a few =
+    let hi = inputs-fit i o a in
+    let ho = outputs-fit i o a in
+    rw (
+      zeros-enough (n * letterCount i o) (stateLimit * letterLimit) (mul-le-mul few (pow-mono {j = 8} (omega arith))),
+      zeros-enough n stateLimit few,
+      zeros-enough (n * 2 ^ i) (stateLimit * numberLimit) (mul-le-mul few (pow-mono {j = 4} hi)),
+    )
+
+-- so nothing that it asks is refused by 3
+pub never-short : {mode : Mode} {i o : ℕ} {rule condition : List ℕ} {new : Buffers} {r : Answer} → RuleSolved mode i o rule condition lent new r
+    → answerNumber r ≡ 3 → ⊥
+never-short {mode} {i} {o} {rule} {condition} {new} {r} m e =
+    first-has (λ x. numberOf x ≡ 3 → ⊥) i o rule condition lent (m .states) (m .reading) (m .condition-reading)
+    record {
+      alphabet = λ z. omega arith;
+      text-length = λ z. omega arith;
+      rule-text = λ k _ z. omega arith;
+      rule-nodes = λ z. omega arith;
+      rule-operators = λ z. omega arith;
+      condition-text = λ k _ z. omega arith;
+      condition-nodes = λ z. omega arith;
+      count = λ _ z. omega arith;
+      buffer = λ a l t _. clash (shortBuffers i o (m .states) lent) t (lent-enough i o (m .states) a l);
+      nothing = λ _ _ z. omega arith;
+    }
+    (ap numberOf (sym (m .first)) ∙ sym (m .number) ∙ e)
 
 -- a call is served, or its answer is the refusal
 pub served-or-refused : {mode : Mode} {i o : ℕ} {rule condition : List ℕ} {old new : Buffers} {r : Answer} (m : RuleSolved mode i o rule condition old new r)
@@ -100,18 +135,16 @@ served-or-refused m =
 -- an answer has no more states than the limit
 pub solved-states : {mode : Mode} {i o : ℕ} {rule condition : List ℕ} {old new : Buffers} {r : Answer} → RuleSolved mode i o rule condition old new r
     → answerStates r ≤ stateLimit
-unfolding ruleRefusal
 solved-states {mode} {i} {o} {rule} {condition} {old} {new} {r} m =
     ⊎-elim
     (λ z.
     let v = m .served z in
     let e : answerStates r ≡ m .states = ap answerStates (v .1) ∙ verdict-states (m .states) (v .0) in
-    let h = served-states i o rule condition old (m .reading) (m .condition-reading) (m .states) (ap numberOf (sym (m .first) ∙ z)) in
-    subst (λ (k : ℕ). k ≤ stateLimit) (sym e) h)
+    let h = served-tests i o rule condition old (m .reading) (m .condition-reading) (m .states) (ap numberOf (sym (m .first) ∙ z)) in
+    subst (λ (k : ℕ). k ≤ stateLimit) (sym e) (h .1))
     (λ e.
     subst (λ (k : ℕ). k ≤ stateLimit) (sym (ap answerStates e ∙ ap neededOf (m .first)))
-    (needed-small (badAlphabet i o) (tooLong rule || tooLong condition) (ltb stateLimit (m .states)) (shortBuffers i o (m .states) old) (m .states)
-    (m .reading) (m .condition-reading) (ltb-false stateLimit (m .states))))
+    (needed-small i o rule condition old (m .reading) (m .condition-reading) (m .states)))
     (served-or-refused m)
 
 -- the transitions are not listed

@@ -117,7 +117,7 @@ pub(crate) fn list_states(
     slots: &mut [u8; SLOT_COUNT],
     list: &mut [u64],
 ) -> usize
-    requires { ⌜ (vectors ≤ vectorLimit) × (0 < letters) × (letters ≤ letterLimit) × Twins letters (vectors / 2) (now table) (now twins)
+    requires { ⌜ (vectors ≤ vectorLimit) × (letters ≤ letterLimit) × Twins letters (vectors / 2) (now table) (now twins)
         × (stateLimit ≤ length (now list)) ⌝ }
     ensures listed { λ r. ⌜ ((φ : Formula) → Tabulates φ letters (now (table .entry)) → vectors ≡ 2 ^ suc (operators φ) → first ≡ start φ
         → AllListed φ letters r (now (list .exit))) ⌝ }

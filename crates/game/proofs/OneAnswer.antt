@@ -7,10 +7,8 @@ use mathlib.Core.Bool.{true, false, cond, _||_}
 use mathlib.Core.List.{List}
 use mathlib.Core.Logic.{_⊎_, ⊎-elim}
 use native.Mathlib.Nat.{mod-lt, div-add-mod', div-lt-iff-lt-mul}
-use lib.Dec.{ltb}
 use lib.ListN.{getD}
 use lib.Pow.{pow-pos}
-use Rattle.automaton.specs.Limits.{stateLimit}
 use Rattle.reader.specs.declared.reading.Reading.{Reading}
 use Rattle.reader.specs.declared.refusal.Refusal.{Refusal}
 use Rattle.reader.specs.declared.refusal.Refusal.the-variants.{Nothing, Alphabet, TextLength}

@@ -6,7 +6,7 @@ use mathlib.Core.Path.{_≡_, refl, sym, ap, _∙_, subst}
 use mathlib.Core.Bool.{true, false}
 use mathlib.Core.List.{List, [], _∷_}
 use mathlib.Core.Logic.{_↔_}
-use native.Mathlib.Nat.{mul-le-mul-right, mul-pos, div-add-mod', div-lt-iff-lt-mul, mod-lt}
+use native.Mathlib.Nat.{mul-pos, div-add-mod', div-lt-iff-lt-mul, mod-lt}
 use native.Mathlib.Omega.{arith}
 use lib.ListN.{length, getD, take}
 use lib.Pow.{pow-add, pow-pos}

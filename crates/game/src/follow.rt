@@ -2,7 +2,6 @@
 ghost use mathlib.Core.Path.{_≡_};
 ghost use mathlib.Core.Bool.{false, not, _||_};
 ghost use Prim.Native.Nat.{_<_};
-ghost use mathlib.Core.List.{[]};
 ghost use lib.Dec.{eqb};
 ghost use Rattle.plays.specs.Arena.{arena};
 ghost use Rattle.game.specs.inner.Game.{arenaAt};

@@ -77,7 +77,6 @@ list-states-requires c κs =
     let t = c .before .before .before in
     let s = t .before .before .before .before in (
       rw (one-shifted (s .args .width) (s .pre .1)) (pow-mono (s .pre .1)),
-      s .pre .3,
       s .pre .4,
       t .find-twins .ensures,
       omega arith,

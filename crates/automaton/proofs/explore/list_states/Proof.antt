@@ -55,14 +55,14 @@ loop-holds c =
       refl,
       λ φ tab e f.
           subst (λ (t : ℕ). Listed φ (a .letters) 1 t (set (a .list .now) 0 (a .first))) (sym (zero-mul (a .letters)))
-          (listed-none φ (a .letters) (a .first) (a .list .now) (omega (arith, c .before .pre .4)) f),
+          (listed-none φ (a .letters) (a .first) (a .list .now) (omega (arith, c .before .pre .3)) f),
     )
 
 list-letters-requires : tie.Need-list-letters-requires Inv-loop μ-loop
 list-letters-requires c κs =
     let at = c .before .before .before in
     let z = start-of at in
-    (z .pre .0, z .pre .2, z .pre .3, c .before .before .loop-test .taken, at .loop .inv .1, omega (arith, z .pre .4, list-length at))
+    (z .pre .0, z .pre .1, z .pre .2, c .before .before .loop-test .taken, at .loop .inv .1, omega (arith, z .pre .3, list-length at))
 
 same-length : tie.Need-same-length Inv-loop μ-loop
 same-length c = let x = c .before .before .before in x .list-letters .kept .1 .1 .1 .1 .1 .1 .1 .0 ∙ list-length (head x)

@@ -131,7 +131,7 @@ slice-aggregate-mark-states c = search needs
 mark-states-requires : tie.Need-mark-states-requires
 mark-states-requires c κs =
     let e = c .before .before .before .before .before .before .before .before .before in
-    (omega arith, long e .1, start (e .before) .pre .2)
+    (omega arith, omega (arith, long e .1), start (e .before) .pre .2)
 
 same-length-3 : tie.Need-same-length-3
 same-length-3 c = search needs

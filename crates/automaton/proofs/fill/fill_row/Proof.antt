@@ -139,7 +139,7 @@ add-transitions-3 : tie.Need-add-transitions-3 Inv-loop μ-loop
 add-transitions-3 c = omega (arith, room (head c))
 
 slice-write-transitions-2 : tie.Need-slice-write-transitions-2 Inv-loop μ-loop
-slice-write-transitions-2 c = room (head c)
+slice-write-transitions-2 c = omega (arith, room (head c))
 
 add-a-2 : tie.Need-add-a-2 Inv-loop μ-loop
 add-a-2 c = search needs

@@ -34,7 +34,7 @@
  *
  *      1  i or o is above 4
  *      2  the rule or the condition has more than 255 bytes
- *      3  a buffer is too short for n states
+ *      3  a buffer is too short for n states; after a rule, n tells how many these are
  *      4  the rule's text is bad; place: the number of bytes that are still a good beginning
  *      5  the rule has more than 64 names, constants and operators together
  *      6  the rule has more than 5 temporal operators (X N F G U R)
@@ -50,7 +50,8 @@
  * What a call writes. Every single value (can, n, round, place, satisfied, row, output) is written by every call: on a
  * refusal it is 0, with two exceptions: `place`; and `n` with refusal 3 of a rule, which is the number of states that
  * the buffers must have room for. `state` and `reached` change only when a step is taken. A refused call leaves every
- * byte of the buffers as it was. A served one writes n states' share of each, and no byte beyond.
+ * byte of the buffers as it was. A served one writes n states' share of those that it is lent for writing, and no byte
+ * beyond.
  *
  * What a caller owes. A buffer is a pointer and its length in bytes, and all those bytes must be there, readable and,
  * unless the pointer is const, writable. A length of 0 may come with any pointer, also null, since nothing is then

@@ -118,6 +118,9 @@ pub fn any_mode(chance: &mut Chance) -> Mode {
     }
 }
 
+/// The four buffers, in the order of the calls.
+pub const BUFFERS: [&str; 4] = ["moves", "marks", "station", "outside"];
+
 /// How a lent length stands to the share that is needed.
 pub fn fit(told: usize, share: usize) -> &'static str {
     match told {

@@ -53,7 +53,7 @@ fn count_refused(call: &Call, refusal: Refusal, tally: &mut Tally) {
     if let Some(n) = refusal.needed {
         let Shown { moves, marks, station, .. } = call.lent;
         let told = [moves.len(), marks.len(), station.len()];
-        let kind = short_kind(&["moves", "marks", "station"], &told, &shares(call.i, call.o, n)[..3]);
+        let kind = short_kind(&BUFFERS[..3], &told, &shares(call.i, call.o, n)[..3]);
         tally.count(format!("{name}, {kind}"));
     }
     tally.count(name);

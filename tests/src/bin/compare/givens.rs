@@ -20,9 +20,6 @@ pub struct Case {
     pub outside: Lent,
 }
 
-/// The four buffers, in the order of the call.
-const NAMES: [&str; 4] = ["moves", "marks", "station", "outside"];
-
 impl Case {
     /// A case without faults on n states.
     pub fn good(chance: &mut Chance, i: usize, o: usize, n: usize) -> Case {
@@ -60,7 +57,7 @@ impl Case {
     fn count_refused(&self, refusal: Refusal, tally: &mut Tally) {
         let name = format!("given: refused {:2}", refusal.number);
         if let Some(n) = refusal.needed {
-            tally.count(format!("{name}, {}", short_kind(&NAMES, &self.lengths(), &shares(self.i, self.o, n))));
+            tally.count(format!("{name}, {}", short_kind(&BUFFERS, &self.lengths(), &shares(self.i, self.o, n))));
         }
         tally.count(name);
     }
@@ -93,7 +90,7 @@ impl Case {
             Err(refusal) => self.count_refused(refusal, tally),
             Ok(verdict) => {
                 check_answer(told.answer, verdict.can)?;
-                let kind = room_kind(&NAMES, &self.lengths(), &shares(self.i, self.o, verdict.n));
+                let kind = room_kind(&BUFFERS, &self.lengths(), &shares(self.i, self.o, verdict.n));
                 tally.count(format!("given: served, {kind}"));
                 self.judged(verdict, tally)?;
             }

@@ -27,9 +27,6 @@ pub struct Case {
     pub outside: Lent,
 }
 
-/// The four buffers, in the order of the call.
-const NAMES: [&str; 4] = ["moves", "marks", "station", "outside"];
-
 /// The number of states that the buffers must have room for, which the solver tells one who lends nothing; the most
 /// where the rule or its condition is refused.
 fn states(i: usize, o: usize, rule: &[u8], condition: &[u8]) -> usize {
@@ -108,7 +105,7 @@ impl Case {
             Err(refusal) => self.count_refused(refusal, tally),
             Ok(verdict) => {
                 check_answer(told.answer, verdict.can)?;
-                let kind = room_kind(&NAMES, &self.lengths(), &shares(self.i, self.o, verdict.n));
+                let kind = room_kind(&BUFFERS, &self.lengths(), &shares(self.i, self.o, verdict.n));
                 tally.count(format!("rule: served, {kind}"));
                 self.judged(verdict, tally)?;
             }
@@ -121,7 +118,7 @@ impl Case {
         let (number, lengths) = (refusal.number, self.lengths());
         let name = format!("rule: refused {number:2}");
         if let Some(n) = refusal.needed {
-            let kind = short_kind(&NAMES, &lengths, &shares(self.i, self.o, n));
+            let kind = short_kind(&BUFFERS, &lengths, &shares(self.i, self.o, n));
             tally.count(format!("{name}, {kind}"));
         } else if number > 2 && lengths == [0; 4] {
             tally.count(format!("{name}, all buffers empty"));

@@ -1,11 +1,13 @@
 /* Solves a rule, then follows the station's table on cues from standard input: one input number a line, in decimal.
- * Prints the output number of each step and stops at the first goal.
+ * Prints the output number of each step and stops at the first goal. The rule is solved in two calls: the first lends
+ * nothing and so asks how many states the rule has, and the second lends just what they need.
  *
  *   rt staticlib capi
  *   cc examples/follow.c -Iinclude target/staticlib/libcapi.a -o follow
  *   ./follow < examples/follow.input
  */
 #include <stdio.h>
+#include <stdlib.h>
 #include <string.h>
 #include "airtable.h"
 
@@ -18,13 +20,43 @@ static const char rule[] = "(p&!q) U (a&q&!p)";
 /* The studio is ready again and again. */
 static const char condition[] = "a";
 
-static uint8_t moves[AIRTABLE_MOVES_SIZE(INPUTS, OUTPUTS)];
-static uint8_t marks[AIRTABLE_MARKS_SIZE(INPUTS, OUTPUTS)];
-static uint8_t station[AIRTABLE_STATION_SIZE(INPUTS, OUTPUTS)];
-static uint8_t outside[AIRTABLE_OUTSIDE_SIZE(INPUTS, OUTPUTS)];
+/* A buffer and its length. */
+struct buffer {
+    uint8_t *bytes;
+    size_t length;
+};
+
+static struct buffer moves, marks, station, outside;
+
+/* What the rule call tells besides. */
+static uint8_t can;
+static size_t n, round_number, place;
+
+/* Solves the rule with the buffers as they are. */
+static uint8_t solve(void)
+{
+    return airtable_solve_rule(INPUTS, OUTPUTS, AIRTABLE_FAIR,
+        (const uint8_t *)rule, strlen(rule), (const uint8_t *)condition, strlen(condition),
+        moves.bytes, moves.length, marks.bytes, marks.length,
+        station.bytes, station.length, outside.bytes, outside.length,
+        &can, &n, &round_number, &place);
+}
+
+/* A buffer of so many bytes. */
+static struct buffer space(size_t length)
+{
+    struct buffer buffer;
+    buffer.bytes = malloc(length);
+    buffer.length = length;
+    if (buffer.bytes == NULL) {
+        fputs("no memory\n", stderr);
+        exit(1);
+    }
+    return buffer;
+}
 
 /* Says which refusal a call came to. */
-static int refused(uint8_t number, size_t place)
+static int refused(uint8_t number)
 {
     fprintf(stderr, "refused %u %zu\n", (unsigned)number, place);
     return 1;
@@ -32,24 +64,29 @@ static int refused(uint8_t number, size_t place)
 
 int main(void)
 {
-    uint8_t can, reached = 0, row, output, number;
-    size_t n, round, place, state = 0, input;
+    uint8_t reached = 0, row, output, number;
+    size_t state = 0, input;
 
-    number = airtable_solve_rule(INPUTS, OUTPUTS, AIRTABLE_FAIR,
-        (const uint8_t *)rule, strlen(rule), (const uint8_t *)condition, strlen(condition),
-        moves, sizeof moves, marks, sizeof marks, station, sizeof station, outside, sizeof outside,
-        &can, &n, &round, &place);
+    number = solve(); /* nothing is lent yet */
+    if (number != AIRTABLE_REFUSED_BUFFER)
+        return refused(number);
+    moves = space(AIRTABLE_MOVES_SIZE(INPUTS, OUTPUTS, n));
+    marks = space(AIRTABLE_MARKS_SIZE(INPUTS, OUTPUTS, n));
+    station = space(AIRTABLE_STATION_SIZE(INPUTS, OUTPUTS, n));
+    outside = space(AIRTABLE_OUTSIDE_SIZE(INPUTS, OUTPUTS, n));
+    number = solve();
     if (number != AIRTABLE_SERVED)
-        return refused(number, place);
-    printf("%s %zu %zu\n", can ? "can" : "cannot", n, round);
+        return refused(number);
+    printf("%s %zu %zu\n", can ? "can" : "cannot", n, round_number);
     if (!can)
         return 0;
 
     while (!reached && scanf("%zu", &input) == 1) {
-        number = airtable_follow(INPUTS, OUTPUTS, n, moves, sizeof moves, marks, sizeof marks, station, sizeof station,
+        number = airtable_follow(INPUTS, OUTPUTS, n,
+            moves.bytes, moves.length, marks.bytes, marks.length, station.bytes, station.length,
             input, &state, &reached, &row, &output, &place);
         if (number != AIRTABLE_SERVED)
-            return refused(number, place);
+            return refused(number);
         if (!row) {
             puts("no row");
             return 1;

@@ -5,16 +5,24 @@
  * outside sets the inputs and the station then sets the outputs. An input number has bit 0 for a, bit 1 for b and so
  * on; an output number has bit 0 for p. The letter of a step is one byte: input + 2^i * output.
  *
- * First use: can the station bring about a rule, and what does it do on input 1?
+ * First use: can the station bring about a rule, and what does it do on input 1? The first call lends nothing, so it is
+ * refused and tells how many states the rule has; the second lends just what they need.
  *
- *     uint8_t moves[AIRTABLE_MOVES_SIZE(1, 1)], marks[AIRTABLE_MARKS_SIZE(1, 1)];          // i = 1, o = 1
- *     uint8_t station[AIRTABLE_STATION_SIZE(1, 1)], outside[AIRTABLE_OUTSIDE_SIZE(1, 1)];
+ *     const uint8_t *rule = (const uint8_t *)"pUa", *condition = (const uint8_t *)"a";
  *     uint8_t can, reached = 0, row, output;
  *     size_t n, round, place, state = 0;
- *     if (airtable_solve_rule(1, 1, AIRTABLE_FAIR, (const uint8_t *)"pUa", 3, (const uint8_t *)"a", 1,
- *             moves, sizeof moves, marks, sizeof marks, station, sizeof station, outside, sizeof outside,
+ *     if (airtable_solve_rule(1, 1, AIRTABLE_FAIR, rule, 3, condition, 1, NULL, 0, NULL, 0, NULL, 0, NULL, 0,
+ *             &can, &n, &round, &place) != AIRTABLE_REFUSED_BUFFER)
+ *         return 1;                                                                // refused for another reason
+ *     size_t moves_size = AIRTABLE_MOVES_SIZE(1, 1, n), marks_size = AIRTABLE_MARKS_SIZE(1, 1, n); // i = 1, o = 1
+ *     size_t station_size = AIRTABLE_STATION_SIZE(1, 1, n), outside_size = AIRTABLE_OUTSIDE_SIZE(1, 1, n);
+ *     uint8_t *moves = malloc(moves_size), *marks = malloc(marks_size);
+ *     uint8_t *station = malloc(station_size), *outside = malloc(outside_size);
+ *     if (moves && marks && station && outside
+ *         && airtable_solve_rule(1, 1, AIRTABLE_FAIR, rule, 3, condition, 1,
+ *             moves, moves_size, marks, marks_size, station, station_size, outside, outside_size,
  *             &can, &n, &round, &place) == 0 && can
- *         && airtable_follow(1, 1, n, moves, sizeof moves, marks, sizeof marks, station, sizeof station,
+ *         && airtable_follow(1, 1, n, moves, moves_size, marks, marks_size, station, station_size,
  *             1, &state, &reached, &row, &output, &place) == 0 && row)
  *         printf("output %u, goal %s\n", output, reached ? "entered" : "still ahead");
  *
@@ -26,7 +34,7 @@
  *
  *      1  i or o is above 4
  *      2  the rule or the condition has more than 255 bytes
- *      3  a buffer is too short
+ *      3  a buffer is too short for n states; after a rule, n tells how many these are
  *      4  the rule's text is bad; place: the number of bytes that are still a good beginning
  *      5  the rule has more than 64 names, constants and operators together
  *      6  the rule has more than 5 temporal operators (X N F G U R)
@@ -40,9 +48,10 @@
  *         index in `letters`
  *
  * What a call writes. Every single value (can, n, round, place, satisfied, row, output) is written by every call: on a
- * refusal it is 0, `place` apart. `state` and `reached` change only when a step is taken. A refused call leaves the
- * buffers as they were, with one exception: refusal 9 sets the first 128 * 2^(i+o) bytes of `moves` to 0. Bytes beyond
- * the sizes below are never touched.
+ * refusal it is 0, with two exceptions: `place`; and `n` with refusal 3 of a rule, which is the number of states that
+ * the buffers must have room for. `state` and `reached` change only when a step is taken. A refused call leaves every
+ * byte of the buffers as it was. A served one writes n states' share of those that it is lent for writing, and no byte
+ * beyond.
  *
  * What a caller owes. A buffer is a pointer and its length in bytes, and all those bytes must be there, readable and,
  * unless the pointer is const, writable. A length of 0 may come with any pointer, also null, since nothing is then
@@ -91,23 +100,24 @@ extern "C" {
 #define AIRTABLE_REFUSED_STATE 12
 #define AIRTABLE_REFUSED_VALUE 13
 
-/* The number of states for which there must be room in the buffers that a solving call writes. */
+/* The most states that an automaton has. */
 #define AIRTABLE_STATES 128
 
 /*
- * The bytes to lend for each buffer that a solving call writes, for i and o from 0 to 4; constant where i and o are.
- * They do for every call, since no automaton has more states.
+ * The bytes of each buffer for n states, for i and o from 0 to 4 and n from 0 to AIRTABLE_STATES; constant where these
+ * are. With AIRTABLE_STATES for n they do for every call: so one who wants fixed arrays need not ask for n.
  */
-#define AIRTABLE_MOVES_SIZE(i, o) ((size_t)AIRTABLE_STATES << ((i) + (o)))
-#define AIRTABLE_MARKS_SIZE(i, o) ((size_t)AIRTABLE_STATES)
-#define AIRTABLE_STATION_SIZE(i, o) ((size_t)AIRTABLE_STATES << (i))
-#define AIRTABLE_OUTSIDE_SIZE(i, o) ((size_t)AIRTABLE_STATES)
+#define AIRTABLE_MOVES_SIZE(i, o, n) ((size_t)(n) << ((i) + (o)))
+#define AIRTABLE_MARKS_SIZE(i, o, n) ((size_t)(n))
+#define AIRTABLE_STATION_SIZE(i, o, n) ((size_t)(n) << (i))
+#define AIRTABLE_OUTSIDE_SIZE(i, o, n) ((size_t)(n))
 
 /*
- * Solves the game of a rule. Refusals in this order: 1, 2, 3, 4, 5, 6, 7, 8, 9.
+ * Solves the game of a rule. Refusals in this order: 1, 2, 4, 5, 6, 7, 8, 9, 3.
  *
- * Lend at least 128 * 2^(i+o) bytes for moves, 128 for marks, 128 * 2^i for station and 128 for outside (the sizes
- * above). When served:
+ * Lend at least n * 2^(i+o) bytes for moves, n for marks, n * 2^i for station and n for outside (the sizes above); n is
+ * the number of the rule's states. Where one of them is shorter the call is refused by 3 and tells n. Every rule has at
+ * least one state, so a call with four lengths of 0 is never served: it is the way to ask for n. When served:
  *   can      1 if the station wins from state 0, else 0
  *   n        the number of states; they are 0 to n - 1, and state 0 is the start
  *   round    1 to n if can is 1: by the table, every play from state 0 satisfies the rule at the latest with the round-th
@@ -119,8 +129,8 @@ extern "C" {
  *            outside wins
  *   outside  byte s: the input that keeps the station from its goal, the lowest that serves; 255 for states that the
  *            station wins
- * The rest of the 128 states' share is 0 in moves and marks, and 255 in the two tables. Every byte is determined by the
- * arguments: docs/SPECIFICATION.md, "Tables", says which output and which input serve.
+ * These bytes, n states' share of each buffer, are all that is written, and every one is determined by the arguments:
+ * docs/SPECIFICATION.md, "Tables", says which output and which input serve.
  */
 uint8_t airtable_solve_rule(size_t i, size_t o, uint8_t mode,
     const uint8_t *rule, size_t rule_length, const uint8_t *condition, size_t condition_length,
@@ -132,9 +142,9 @@ uint8_t airtable_solve_rule(size_t i, size_t o, uint8_t mode,
  * Solves the game on an automaton of your own, with n states from 1 to 128. Refusals in this order: 1, 10, 3, 12, 11, 13.
  *
  * Give at least n * 2^(i+o) bytes of moves and n of marks (any mark but 0 is a goal), laid out as above; they are only
- * read. Lend at least 128 * 2^i bytes for station and 128 for outside; can, round and the two tables are written as
- * above, with `start` for state 0 and "enters a goal" for "satisfies the rule". Bit x of mask says whether input
- * number x has the condition. The start's own mark counts for nothing until a step enters it.
+ * read. Lend at least n * 2^i bytes for station and n for outside; can, round and the two tables are written as above,
+ * with `start` for state 0 and "enters a goal" for "satisfies the rule". Bit x of mask says whether input number x has
+ * the condition. The start's own mark counts for nothing until a step enters it.
  */
 uint8_t airtable_solve_given(size_t i, size_t o, uint8_t mode, size_t n,
     const uint8_t *moves, size_t moves_length, const uint8_t *marks, size_t marks_length,

@@ -5,18 +5,13 @@ use crate::inputs::Rule;
 use crate::library::Library;
 use solver::automaton::Automaton;
 use solver::calls::{solve_given, solve_rule, Buffers, Given, Verdict};
+use solver::listing::buffers;
 use solver::Mode;
 
 /// Ends the run: something differs that must not.
 pub fn differ(what: &str) -> ! {
     println!("\nDIFFERENCE: {what}");
     std::process::exit(1)
-}
-
-/// Buffers for the solver's call, as large as the library's.
-pub fn solver_buffers(i: usize, o: usize) -> Buffers {
-    let library = Library::new(i, o);
-    Buffers { moves: library.moves, marks: library.marks, station: library.station, outside: library.outside }
 }
 
 /// The automaton in the library's buffers.
@@ -31,9 +26,13 @@ pub fn check_rule(rule: &Rule, mode: Mode) -> Option<Library> {
     let Rule { i, o, .. } = *rule;
     let mut library = Library::new(i, o);
     library.solve_rule(i, o, mode, &rule.text, &rule.condition);
-    let mut buffers = solver_buffers(i, o);
+    let mut buffers = buffers(i, o);
     let wanted = solve_rule(i, o, mode, &rule.text, &rule.condition, &mut buffers);
     let name = format!("{mode:?} {}", String::from_utf8_lossy(&rule.text));
+    if library.moves != buffers.moves || library.marks != buffers.marks {
+        differ(&format!("{name}: moves or marks"));
+    }
+    same_tables(&name, &library, &buffers.station, &buffers.outside);
     let verdict = match wanted {
         Err(refusal) if refusal.number == library.number => return None,
         Ok(verdict) if library.number == 0 => verdict,
@@ -43,11 +42,21 @@ pub fn check_rule(rule: &Rule, mode: Mode) -> Option<Library> {
     if told != verdict {
         differ(&format!("{name}: {told:?}, wanted {verdict:?}"));
     }
-    if library.moves != buffers.moves || library.marks != buffers.marks {
-        differ(&format!("{name}: moves or marks"));
-    }
-    same_tables(&name, &library, &buffers.station, &buffers.outside);
     Some(library)
+}
+
+/// Asks for n with no buffers and compares number and n with the solver's. Hands back n, or 0 where both refuse otherwise.
+pub fn check_asking(rule: &Rule, mode: Mode) -> usize {
+    let Rule { i, o, .. } = *rule;
+    let mut library = Library::empty();
+    library.solve_rule(i, o, mode, &rule.text, &rule.condition);
+    let wanted = solve_rule(i, o, mode, &rule.text, &rule.condition, &mut Buffers::default());
+    let told = wanted.map_err(|refusal| (refusal.number, refusal.needed.unwrap_or(0)));
+    if told != Err((library.number, library.n)) {
+        let name = String::from_utf8_lossy(&rule.text);
+        differ(&format!("{name}, asked for n: {} with {}, wanted {told:?}", library.number, library.n));
+    }
+    library.n
 }
 
 /// Compares both tables, byte for byte.

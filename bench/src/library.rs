@@ -1,8 +1,9 @@
 //! The two solving calls of include/airtable.h, with buffers that are kept from call to
 //! call, so that nothing is allocated while a call is timed.
 
-use solver::calls::Given;
+use solver::calls::{Buffers, Given};
 use solver::header::{airtable_solve_given, airtable_solve_rule};
+use solver::listing::buffers;
 use solver::Mode;
 
 /// The lent buffers, with what the last call handed back.
@@ -26,10 +27,16 @@ fn mode_byte(mode: Mode) -> u8 {
 }
 
 impl Library {
-    /// Buffers of exactly the share that i and o ask for.
+    /// Buffers for every automaton with i and o, as they lie in a caller's fixed arrays.
     pub fn new(i: usize, o: usize) -> Library {
-        let (moves, station) = (vec![0; 128 << (i + o)], vec![0; 128 << i]);
-        Library { moves, marks: vec![0; 128], station, outside: vec![0; 128], number: 0, can: 0, n: 0, round: 0 }
+        let Buffers { moves, marks, station, outside } = buffers(i, o);
+        Library { moves, marks, station, outside, number: 0, can: 0, n: 0, round: 0 }
+    }
+
+    /// No buffers, with which a call for a rule asks for n.
+    pub fn empty() -> Library {
+        let Buffers { moves, marks, station, outside } = Buffers::default();
+        Library { moves, marks, station, outside, number: 0, can: 0, n: 0, round: 0 }
     }
 
     /// The call for a rule.

@@ -6,9 +6,10 @@
 //! inputs, families  rules; shapes, effort  given automata and what they ask of a solver by ranks; ways  others, for the
 //!                   round number
 //! mona, process, listing, language, outside  MONA: translation, runs, what it prints, is it the same
-//! rules, givens, rounds, growth, stack  the parts; aims, table  what falls short, and the printing
+//! rules, asking, givens, rounds, growth, stack  the parts; aims, table  what falls short, and the printing
 
 mod aims;
+mod asking;
 mod clock;
 mod compare;
 mod effort;
@@ -49,6 +50,7 @@ fn main() {
         Some(ref mut runs) => runs.print(),
         None => println!("\nMONA is not installed here; its columns are empty."),
     }
+    asking::print(&inputs::large());
     givens::print(&mut aims);
     rounds::print(&mut aims);
     growth::print();

@@ -2,10 +2,10 @@
 //! starts. What the solver allocates inside its call is part of its time.
 
 use crate::clock::{pair, Pair};
-use crate::compare::solver_buffers;
 use crate::inputs::Rule;
 use crate::library::Library;
 use solver::calls::{solve_given, solve_rule, Given};
+use solver::listing::buffers;
 use solver::Mode;
 use std::hint::black_box;
 
@@ -22,10 +22,20 @@ pub fn library_rule(rule: &Rule, mode: Mode) -> Call<'_> {
     })
 }
 
+/// The library's call for a rule with no buffers, which asks for n.
+pub fn library_asking(rule: &Rule, mode: Mode) -> Call<'_> {
+    let Rule { i, o, .. } = *rule;
+    let mut library = Library::empty();
+    Box::new(move || {
+        library.solve_rule(i, o, mode, black_box(&rule.text), black_box(&rule.condition));
+        black_box(&library.n);
+    })
+}
+
 /// The solver's whole call for a rule.
 pub fn solver_rule(rule: &Rule, mode: Mode) -> Call<'_> {
     let Rule { i, o, .. } = *rule;
-    let mut buffers = solver_buffers(i, o);
+    let mut buffers = buffers(i, o);
     Box::new(move || {
         let _ = black_box(solve_rule(i, o, mode, black_box(&rule.text), black_box(&rule.condition), &mut buffers));
     })
@@ -42,7 +52,7 @@ pub fn library_given(i: usize, o: usize, mode: Mode, given: &Given) -> Call<'_> 
 
 /// The solver's call for a given automaton.
 pub fn solver_given(i: usize, o: usize, mode: Mode, given: &Given) -> Call<'_> {
-    let (mut station, mut outside) = (vec![0; 128 << i], vec![0; 128]);
+    let (mut station, mut outside) = (vec![0; given.n << i], vec![0; given.n]);
     Box::new(move || {
         let _ = black_box(solve_given(i, o, mode, black_box(given), &mut station, &mut outside));
     })

@@ -66,6 +66,15 @@ static uint8_t solve(size_t i, size_t o, uint8_t mode, const char *rule, const c
         moves, ROOM, marks, ROOM - 1, station, ROOM - 2, outside, ROOM - 3, &can, &n, &round_number, &place);
 }
 
+/* The rule call on such texts with no room at all, which asks for n. */
+static uint8_t ask(size_t i, size_t o, const char *rule, const char *condition)
+{
+    reset();
+    return airtable_solve_rule(i, o, AIRTABLE_FAIR,
+        (const uint8_t *)rule, strlen(rule), (const uint8_t *)condition, strlen(condition),
+        NULL, 0, NULL, 0, NULL, 0, NULL, 0, &can, &n, &round_number, &place);
+}
+
 /* Play the filler p, and not q, until the studio is ready (a) and goes live (q). State 1 is lost, 3 the goal. */
 static const char rule[] = "(p&!q)U(a&q&!p)";
 static const uint8_t rule_moves[4][8] = {
@@ -80,36 +89,75 @@ static void served_rule(void)
     CHECK(round_number, 1);
     CHECK(place, 0);
     CHECK(memcmp(moves, rule_moves, sizeof rule_moves), 0);
-    CHECK_BYTES(moves, sizeof rule_moves, AIRTABLE_MOVES_SIZE(1, 2), 0);
-    CHECK_BYTES(moves, AIRTABLE_MOVES_SIZE(1, 2), ROOM, OLD_MOVES);
+    CHECK(AIRTABLE_MOVES_SIZE(1, 2, 4), 32);
+    CHECK_BYTES(moves, 32, ROOM, OLD_MOVES);
     CHECK_BYTES(marks, 0, 3, 0);
     CHECK(marks[3], 1);
-    CHECK_BYTES(marks, 4, AIRTABLE_MARKS_SIZE(1, 2), 0);
-    CHECK_BYTES(marks, AIRTABLE_MARKS_SIZE(1, 2), ROOM, OLD_MARKS);
+    CHECK(AIRTABLE_MARKS_SIZE(1, 2, 4), 4);
+    CHECK_BYTES(marks, 4, ROOM, OLD_MARKS);
     CHECK(memcmp(station, "\1\2\377\377\1\2", 6), 0);
     CHECK(station[6] < 4 && station[7] < 4, 1);
-    CHECK_BYTES(station, 8, AIRTABLE_STATION_SIZE(1, 2), 255);
-    CHECK_BYTES(station, AIRTABLE_STATION_SIZE(1, 2), ROOM, OLD_STATION);
+    CHECK(AIRTABLE_STATION_SIZE(1, 2, 4), 8);
+    CHECK_BYTES(station, 8, ROOM, OLD_STATION);
     CHECK(memcmp(outside, "\377\1\377\377", 4), 0);
-    CHECK_BYTES(outside, 4, AIRTABLE_OUTSIDE_SIZE(1, 2), 255);
-    CHECK_BYTES(outside, AIRTABLE_OUTSIDE_SIZE(1, 2), ROOM, OLD_OUTSIDE);
+    CHECK(AIRTABLE_OUTSIDE_SIZE(1, 2, 4), 4);
+    CHECK_BYTES(outside, 4, ROOM, OLD_OUTSIDE);
 }
 
-/* The sizes of the header are enough, and none is too large. */
+/* The sizes are constant where i, o and n are. */
+static uint8_t fixed[AIRTABLE_MOVES_SIZE(1, 1, AIRTABLE_STATES) + AIRTABLE_MARKS_SIZE(1, 1, AIRTABLE_STATES)
+    + AIRTABLE_STATION_SIZE(1, 1, AIRTABLE_STATES) + AIRTABLE_OUTSIDE_SIZE(1, 1, AIRTABLE_STATES)];
+
+/* The call on a rule for every i and o, `Fp` or `F1` where there is no p, with lengths for so many states, less a byte of
+ * the k-th buffer. */
+static uint8_t solve_short(size_t i, size_t o, size_t states, size_t k)
+{
+    reset();
+    return airtable_solve_rule(i, o, AIRTABLE_FAIR, (const uint8_t *)(o > 0 ? "Fp" : "F1"), 2, (const uint8_t *)"1", 1,
+        moves, AIRTABLE_MOVES_SIZE(i, o, states) - (k == 1), marks, AIRTABLE_MARKS_SIZE(i, o, states) - (k == 2),
+        station, AIRTABLE_STATION_SIZE(i, o, states) - (k == 3), outside, AIRTABLE_OUTSIDE_SIZE(i, o, states) - (k == 4),
+        &can, &n, &round_number, &place);
+}
+
+/* No byte of the buffers has changed. */
+static void check_untouched(int line)
+{
+    check_bytes(line, "moves", moves, 0, ROOM, OLD_MOVES);
+    check_bytes(line, "marks", marks, 0, ROOM, OLD_MARKS);
+    check_bytes(line, "station", station, 0, ROOM, OLD_STATION);
+    check_bytes(line, "outside", outside, 0, ROOM, OLD_OUTSIDE);
+}
+
+/* The sizes of the header for n states are enough, and none is too large; with less the call tells n. So it does where
+ * nothing is lent. */
 static void sizes(void)
 {
     size_t i, o, k;
     for (i = 0; i <= 4; i++)
-        for (o = 0; o <= 4; o++)
+        for (o = 0; o <= 4; o++) {
+            size_t states = o > 0 ? 3 : 2;
+            reset();
+            CHECK(airtable_solve_rule(i, o, AIRTABLE_FAIR, (const uint8_t *)(o > 0 ? "Fp" : "F1"), 2, (const uint8_t *)"1", 1,
+                NULL, 0, NULL, 0, NULL, 0, NULL, 0, &can, &n, &round_number, &place), AIRTABLE_REFUSED_BUFFER);
+            CHECK(can, 0);
+            CHECK(n, states);
+            CHECK(round_number, 0);
+            CHECK(place, 0);
             for (k = 0; k < 5; k++) {
-                reset();
-                CHECK(airtable_solve_rule(i, o, AIRTABLE_FAIR, (const uint8_t *)"F1", 2, (const uint8_t *)"1", 1,
-                    moves, AIRTABLE_MOVES_SIZE(i, o) - (k == 1), marks, AIRTABLE_MARKS_SIZE(i, o) - (k == 2),
-                    station, AIRTABLE_STATION_SIZE(i, o) - (k == 3), outside, AIRTABLE_OUTSIDE_SIZE(i, o) - (k == 4),
-                    &can, &n, &round_number, &place), k == 0 ? AIRTABLE_SERVED : AIRTABLE_REFUSED_BUFFER);
+                CHECK(solve_short(i, o, states, k), k == 0 ? AIRTABLE_SERVED : AIRTABLE_REFUSED_BUFFER);
                 CHECK(can, k == 0);
+                CHECK(n, states);
                 CHECK(round_number, k == 0);
+                CHECK(place, 0);
+                if (k > 0)
+                    check_untouched(__LINE__);
             }
+            CHECK(solve_short(i, o, states - 1, 0), AIRTABLE_REFUSED_BUFFER);
+            CHECK(n, states);
+            CHECK(solve_short(i, o, AIRTABLE_STATES, 0), AIRTABLE_SERVED);
+            CHECK(n, states);
+        }
+    CHECK(sizeof fixed, 128 * 4 + 128 + 128 * 2 + 128);
 }
 
 /* 1 is stable, and every other number fair: the rule asks for two closed contacts in a row. */
@@ -144,24 +192,23 @@ static void rounds(void)
     CHECK(memcmp(station, "\1\1", 2), 0);
 }
 
-/* All that a refused rule call may leave: the moves apart, the buffers are as they were. */
-static void check_refused(int line)
+/* What a rule call leaves that is refused by another number than 3. */
+static void check_refused(int line, size_t wanted_place)
 {
+    check(line, "place", place, wanted_place);
     check(line, "can", can, 0);
     check(line, "n", n, 0);
     check(line, "round_number", round_number, 0);
-    check_bytes(line, "marks", marks, 0, ROOM, OLD_MARKS);
-    check_bytes(line, "station", station, 0, ROOM, OLD_STATION);
-    check_bytes(line, "outside", outside, 0, ROOM, OLD_OUTSIDE);
+    check_untouched(line);
 }
 
-/* A rule call that is refused and writes no buffer. */
-#define REFUSED(call, number, wanted_place)     \
-    do {                                        \
-        CHECK(call, number);                    \
-        CHECK(place, wanted_place);             \
-        check_refused(__LINE__);                \
-        CHECK_BYTES(moves, 0, ROOM, OLD_MOVES); \
+/* A rule call that is refused so with all the room, and again where nothing is lent. */
+#define REFUSED(i, o, rule, condition, number, wanted_place)                                   \
+    do {                                                                                       \
+        CHECK(solve(i, o, 0, rule, condition), number);                                        \
+        check_refused(__LINE__, wanted_place);                                                 \
+        CHECK(ask(i, o, rule, condition), number);                                             \
+        check_refused(__LINE__, wanted_place);                                                 \
     } while (0)
 
 /* The refusals of the rule call, each by its name, and the place. */
@@ -172,20 +219,22 @@ static void refused_rules(void)
     strcpy(many + 64, "1");
     memset(longer, ' ', 256);
     longer[256] = 0;
-    REFUSED(solve(5, 2, 0, rule, "a"), AIRTABLE_REFUSED_ALPHABET, 0);
-    REFUSED(solve(1, 5, 0, rule, "a"), AIRTABLE_REFUSED_ALPHABET, 0);
-    REFUSED(solve(1, 2, 0, longer, "a"), AIRTABLE_REFUSED_TEXT_LENGTH, 0);
-    REFUSED(solve(1, 2, 0, rule, longer), AIRTABLE_REFUSED_TEXT_LENGTH, 0);
-    REFUSED(solve(1, 2, 0, "a&q&", "a"), AIRTABLE_REFUSED_RULE_TEXT, 4);
-    REFUSED(solve(1, 2, 0, many, "a"), AIRTABLE_REFUSED_RULE_NODES, 0);
-    REFUSED(solve(1, 2, 0, "XXXXXXa", "a"), AIRTABLE_REFUSED_RULE_OPERATORS, 0);
-    REFUSED(solve(1, 2, 0, rule, "a|p"), AIRTABLE_REFUSED_CONDITION_TEXT, 2);
-    REFUSED(solve(1, 2, 0, rule, many), AIRTABLE_REFUSED_CONDITION_NODES, 0);
-    CHECK(solve(4, 4, 0, "F((a|Gp)&(b|Gq)&(c|Gr)&(d|Gs))", "1"), AIRTABLE_REFUSED_STATE_COUNT);
+    REFUSED(5, 2, rule, "a", AIRTABLE_REFUSED_ALPHABET, 0);
+    REFUSED(1, 5, rule, "a", AIRTABLE_REFUSED_ALPHABET, 0);
+    REFUSED(1, 2, longer, "a", AIRTABLE_REFUSED_TEXT_LENGTH, 0);
+    REFUSED(1, 2, rule, longer, AIRTABLE_REFUSED_TEXT_LENGTH, 0);
+    REFUSED(1, 2, "a&q&", "a", AIRTABLE_REFUSED_RULE_TEXT, 4);
+    REFUSED(1, 2, many, "a", AIRTABLE_REFUSED_RULE_NODES, 0);
+    REFUSED(1, 2, "XXXXXXa", "a", AIRTABLE_REFUSED_RULE_OPERATORS, 0);
+    REFUSED(1, 2, rule, "a|p", AIRTABLE_REFUSED_CONDITION_TEXT, 2);
+    REFUSED(1, 2, rule, many, AIRTABLE_REFUSED_CONDITION_NODES, 0);
+    REFUSED(4, 4, "F((a|Gp)&(b|Gq)&(c|Gr)&(d|Gs))", "1", AIRTABLE_REFUSED_STATE_COUNT, 0);
+    CHECK(ask(1, 2, rule, "a"), AIRTABLE_REFUSED_BUFFER);
+    CHECK(n, 4);
+    CHECK(can, 0);
+    CHECK(round_number, 0);
     CHECK(place, 0);
-    check_refused(__LINE__);
-    CHECK_BYTES(moves, 0, AIRTABLE_MOVES_SIZE(4, 4), 0);
-    CHECK_BYTES(moves, AIRTABLE_MOVES_SIZE(4, 4), ROOM, OLD_MOVES);
+    check_untouched(__LINE__);
 }
 
 /* An automaton with three states, two inputs and one output. From state 2 the goal, 0, is entered on input 1 by output 1
@@ -213,11 +262,10 @@ static void served_given(void)
     CHECK(place, 0);
     CHECK_BYTES(station, 0, 8, 255);
     CHECK(memcmp(station + 8, "\0\1\0\0", 4), 0);
-    CHECK_BYTES(station, 12, AIRTABLE_STATION_SIZE(2, 1), 255);
-    CHECK_BYTES(station, AIRTABLE_STATION_SIZE(2, 1), ROOM, OLD_STATION);
+    CHECK_BYTES(station, 12, ROOM, OLD_STATION);
     CHECK((outside[0] == 1 || outside[0] == 2) && (outside[1] == 1 || outside[1] == 2), 1);
-    CHECK_BYTES(outside, 2, AIRTABLE_OUTSIDE_SIZE(2, 1), 255);
-    CHECK_BYTES(outside, AIRTABLE_OUTSIDE_SIZE(2, 1), ROOM, OLD_OUTSIDE);
+    CHECK(outside[2], 255);
+    CHECK_BYTES(outside, 3, ROOM, OLD_OUTSIDE);
     CHECK(solve_given(GIVEN_STATES, 1, GIVEN_MASK), AIRTABLE_SERVED);
     CHECK(can, 0);
     CHECK(round_number, 0);
@@ -233,7 +281,7 @@ static void given_rounds(void)
         for (start = 0; start < 3; start++) {
             reset();
             CHECK(airtable_solve_given(0, 0, mode, 3, ring_moves, 3, ring_marks, 3, start, 1,
-                station, AIRTABLE_STATION_SIZE(0, 0), outside, AIRTABLE_OUTSIDE_SIZE(0, 0), &can, &round_number, &place), AIRTABLE_SERVED);
+                station, AIRTABLE_STATION_SIZE(0, 0, 3), outside, AIRTABLE_OUTSIDE_SIZE(0, 0, 3), &can, &round_number, &place), AIRTABLE_SERVED);
             CHECK(can, 1);
             CHECK(round_number, start == 0 ? 1 : start == 1 ? 3 : 2);
         }
@@ -248,11 +296,13 @@ static void given_sizes(void)
         reset();
         CHECK(airtable_solve_given(2, 1, AIRTABLE_FAIR, GIVEN_STATES,
             given_moves, (size_t)24 - (k == 1), given_marks, (size_t)3 - (k == 2), 2, GIVEN_MASK,
-            station, AIRTABLE_STATION_SIZE(2, 1) - (k == 3), outside, AIRTABLE_OUTSIDE_SIZE(2, 1) - (k == 4),
+            station, AIRTABLE_STATION_SIZE(2, 1, GIVEN_STATES) - (k == 3), outside, AIRTABLE_OUTSIDE_SIZE(2, 1, GIVEN_STATES) - (k == 4),
             &can, &round_number, &place), k == 0 ? AIRTABLE_SERVED : AIRTABLE_REFUSED_BUFFER);
         CHECK(can, k == 0);
         CHECK(round_number, k == 0);
         CHECK(place, 0);
+        if (k > 0)
+            check_untouched(__LINE__);
     }
 }
 

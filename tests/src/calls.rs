@@ -11,20 +11,52 @@ use crate::wording::Wording;
 use crate::Mode;
 use crate::STATES;
 
-/// A refusal: its number, and a place or index where the specification names one.
+/// A refusal: its number, a place or index where the specification names one, and with 3 the number of states that the
+/// buffers must have room for.
 #[derive(Clone, Copy, Debug, PartialEq, Eq)]
 pub struct Refusal {
     pub number: u8,
     pub place: Option<usize>,
+    pub needed: Option<usize>,
+}
+
+impl Refusal {
+    /// A refusal that tells its number alone.
+    pub const fn plain(number: u8) -> Refusal {
+        Refusal { number, place: None, needed: None }
+    }
+
+    /// A refusal with a place or index.
+    pub const fn placed(number: u8, place: usize) -> Refusal {
+        Refusal { number, place: Some(place), needed: None }
+    }
+
+    /// Refusal 3: a buffer is too short for n states.
+    pub const fn short(n: usize) -> Refusal {
+        Refusal { number: 3, place: None, needed: Some(n) }
+    }
 }
 
 /// The four buffers of the call for a rule.
-#[derive(Clone, Debug, PartialEq, Eq)]
+#[derive(Clone, Debug, Default, PartialEq, Eq)]
 pub struct Buffers {
     pub moves: Vec<u8>,
     pub marks: Vec<u8>,
     pub station: Vec<u8>,
     pub outside: Vec<u8>,
+}
+
+impl Buffers {
+    /// Buffers of some lengths, filled with one byte.
+    pub fn filled(lengths: [usize; 4], byte: u8) -> Buffers {
+        let [moves, marks, station, outside] = lengths.map(|length| vec![byte; length]);
+        Buffers { moves, marks, station, outside }
+    }
+
+    /// The four lengths.
+    pub fn lengths(&self) -> [usize; 4] {
+        [&self.moves, &self.marks, &self.station, &self.outside].map(Vec::len)
+    }
 }
 
 /// What a solving call hands back: the verdict, the count of states and the round number.
@@ -56,7 +88,21 @@ pub struct Step {
 /// A refusal without a place if `wrong`.
 fn refuse_if(wrong: bool, number: u8) -> Result<(), Refusal> {
     if wrong {
-        Err(Refusal { number, place: None })
+        Err(Refusal::plain(number))
+    } else {
+        Ok(())
+    }
+}
+
+/// n states' share of moves, marks, station and outside.
+pub fn shares(i: usize, o: usize, n: usize) -> [usize; 4] {
+    [n << (i + o), n, n << i, n]
+}
+
+/// Refusal 3 if one of some lengths is below its share of n states.
+fn refuse_short(lengths: &[usize], shares: &[usize], n: usize) -> Result<(), Refusal> {
+    if lengths.iter().zip(shares).any(|(length, share)| length < share) {
+        Err(Refusal::short(n))
     } else {
         Ok(())
     }
@@ -64,7 +110,7 @@ fn refuse_if(wrong: bool, number: u8) -> Result<(), Refusal> {
 
 /// Reads a rule under the limits: refusals 4, 5 and 6.
 fn read_rule(i: usize, o: usize, rule: &[u8]) -> Result<Tree, Refusal> {
-    let tree = read(rule, Wording::rule(i, o)).map_err(|k| Refusal { number: 4, place: Some(k) })?;
+    let tree = read(rule, Wording::rule(i, o)).map_err(|k| Refusal::placed(4, k))?;
     refuse_if(tree.count() > 64, 5)?;
     refuse_if(tree.operators().len() > 5, 6)?;
     Ok(tree)
@@ -72,45 +118,29 @@ fn read_rule(i: usize, o: usize, rule: &[u8]) -> Result<Tree, Refusal> {
 
 /// Reads a condition under the limits: refusals 7 and 8.
 fn read_condition(i: usize, condition: &[u8]) -> Result<Tree, Refusal> {
-    let tree = read(condition, Wording::condition(i)).map_err(|k| Refusal { number: 7, place: Some(k) })?;
+    let tree = read(condition, Wording::condition(i)).map_err(|k| Refusal::placed(7, k))?;
     refuse_if(tree.count() > 64, 8)?;
     Ok(tree)
 }
 
-/// Whether one of the four buffers is too short for a rule.
-fn too_short(i: usize, o: usize, buffers: &Buffers) -> bool {
-    buffers.moves.len() < STATES << (i + o)
-        || buffers.marks.len() < STATES
-        || buffers.station.len() < STATES << i
-        || buffers.outside.len() < STATES
-}
-
-/// Reads rule and condition after all earlier checks: refusals 1 to 8.
-fn rule_and_condition(
-    i: usize,
-    o: usize,
-    rule: &[u8],
-    condition: &[u8],
-    buffers: &Buffers,
-) -> Result<(Tree, u16), Refusal> {
+/// Reads rule and condition after all earlier checks: refusals 1, 2 and 4 to 8.
+fn rule_and_condition(i: usize, o: usize, rule: &[u8], condition: &[u8]) -> Result<(Tree, u16), Refusal> {
     refuse_if(i > 4 || o > 4, 1)?;
     refuse_if(rule.len() > 255 || condition.len() > 255, 2)?;
-    refuse_if(too_short(i, o, buffers), 3)?;
     let tree = read_rule(i, o, rule)?;
     let condition = read_condition(i, condition)?;
     Ok((tree, condition_mask(&condition, i)))
 }
 
-/// Writes the front of a buffer and fills the rest of its share.
-fn write(buffer: &mut [u8], share: usize, front: &[u8], filler: u8) {
-    buffer[..share].fill(filler);
+/// Writes the front of a buffer; the rest stays as it was.
+fn write(buffer: &mut [u8], front: &[u8]) {
     buffer[..front.len()].copy_from_slice(front);
 }
 
 /// Writes both tables into their buffers.
-fn write_tables(i: usize, tables: &Tables, station: &mut [u8], outside: &mut [u8]) {
-    write(station, STATES << i, &tables.station, 255);
-    write(outside, STATES, &tables.outside, 255);
+fn write_tables(tables: &Tables, station: &mut [u8], outside: &mut [u8]) {
+    write(station, &tables.station);
+    write(outside, &tables.outside);
 }
 
 /// The game on a rule's automaton.
@@ -119,7 +149,7 @@ pub fn game_of(automaton: &Automaton, i: usize, o: usize, mask: u16, mode: Mode)
     Game { i, o, n: automaton.n(), moves, goals, mask, mode }
 }
 
-/// The call for a rule.
+/// The call for a rule. Refusals 1, 2, 4, 5, 6, 7, 8, 9, 3.
 pub fn solve_rule(
     i: usize,
     o: usize,
@@ -128,18 +158,16 @@ pub fn solve_rule(
     condition: &[u8],
     buffers: &mut Buffers,
 ) -> Result<Verdict, Refusal> {
-    let (tree, mask) = rule_and_condition(i, o, rule, condition, buffers)?;
-    let Some(automaton) = build(&tree, i, o, STATES) else {
-        buffers.moves[..STATES << (i + o)].fill(0);
-        return Err(Refusal { number: 9, place: None });
-    };
+    let (tree, mask) = rule_and_condition(i, o, rule, condition)?;
+    let automaton = build(&tree, i, o, STATES).ok_or(Refusal::plain(9))?;
+    refuse_short(&buffers.lengths(), &shares(i, o, automaton.n()), automaton.n())?;
     let game = game_of(&automaton, i, o, mask, mode);
     let tables = tables::build(&game, 0);
     let moves: Vec<u8> = game.moves.iter().map(|&t| t as u8).collect();
     let marks: Vec<u8> = game.goals.iter().map(|&goal| goal as u8).collect();
-    write(&mut buffers.moves, STATES << (i + o), &moves, 0);
-    write(&mut buffers.marks, STATES, &marks, 0);
-    write_tables(i, &tables, &mut buffers.station, &mut buffers.outside);
+    write(&mut buffers.moves, &moves);
+    write(&mut buffers.marks, &marks);
+    write_tables(&tables, &mut buffers.station, &mut buffers.outside);
     Ok(Verdict { can: tables.outside[0] == 255, n: game.n, round: tables.round })
 }
 
@@ -147,12 +175,11 @@ pub fn solve_rule(
 fn check_given(i: usize, o: usize, given: &Given, station: usize, outside: usize) -> Result<(), Refusal> {
     refuse_if(i > 4 || o > 4, 1)?;
     refuse_if(given.n == 0 || given.n > STATES, 10)?;
-    let used = given.n << (i + o);
-    let short = given.moves.len() < used || given.marks.len() < given.n;
-    refuse_if(short || station < STATES << i || outside < STATES, 3)?;
+    let shares = shares(i, o, given.n);
+    refuse_short(&[given.moves.len(), given.marks.len(), station, outside], &shares, given.n)?;
     refuse_if(given.start >= given.n, 12)?;
-    if let Some(index) = given.moves[..used].iter().position(|&t| t as usize >= given.n) {
-        return Err(Refusal { number: 11, place: Some(index) });
+    if let Some(index) = given.moves[..shares[0]].iter().position(|&t| t as usize >= given.n) {
+        return Err(Refusal::placed(11, index));
     }
     refuse_if((1usize << i..16).any(|x| given.mask >> x & 1 == 1), 13)
 }
@@ -175,7 +202,7 @@ pub fn solve_given(
 ) -> Result<Verdict, Refusal> {
     check_given(i, o, given, station.len(), outside.len())?;
     let tables = tables::build(&game_of_given(i, o, mode, given), given.start);
-    write_tables(i, &tables, station, outside);
+    write_tables(&tables, station, outside);
     Ok(Verdict { can: tables.outside[given.start] == 255, n: given.n, round: tables.round })
 }
 
@@ -192,8 +219,8 @@ pub struct Lent<'a> {
 fn check_follow(i: usize, o: usize, lent: Lent, input: usize, state: usize) -> Result<(), Refusal> {
     refuse_if(i > 4 || o > 4, 1)?;
     refuse_if(lent.n == 0 || lent.n > STATES, 10)?;
-    let short = lent.moves.len() < lent.n << (i + o) || lent.marks.len() < lent.n || lent.station.len() < lent.n << i;
-    refuse_if(short, 3)?;
+    let lengths = [lent.moves.len(), lent.marks.len(), lent.station.len()];
+    refuse_short(&lengths, &shares(i, o, lent.n), lent.n)?;
     refuse_if(state >= lent.n, 12)?;
     refuse_if(input >= 1 << i, 13)
 }
@@ -215,7 +242,7 @@ pub fn follow(
     let index = (state << (i + o)) + input + ((output as usize) << i);
     let next = lent.moves[index] as usize;
     if next >= lent.n {
-        return Err(Refusal { number: 11, place: Some(index) });
+        return Err(Refusal::placed(11, index));
     }
     Ok(Some(Step { output, state: next, reached: reached || lent.marks[next] != 0 }))
 }
@@ -226,7 +253,7 @@ pub fn try_rule(i: usize, o: usize, rule: &[u8], letters: &[u8]) -> Result<bool,
     refuse_if(rule.len() > 255, 2)?;
     let tree = read_rule(i, o, rule)?;
     if let Some(index) = letters.iter().position(|&letter| letter as usize >= 1 << (i + o)) {
-        return Err(Refusal { number: 13, place: Some(index) });
+        return Err(Refusal::placed(13, index));
     }
     Ok(satisfies(&tree, i, letters))
 }

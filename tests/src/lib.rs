@@ -40,7 +40,7 @@ pub mod tree;
 pub mod viable;
 pub mod wording;
 
-/// The states that an automaton may have, for which there must be room in the buffers that are written.
+/// The states that an automaton may have.
 pub const STATES: usize = 128;
 
 /// The assumption on the outside: the condition again and again, or always from some step on.

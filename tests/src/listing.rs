@@ -1,7 +1,7 @@
 //! The program `airtable` as a function from the bytes of its standard input to the bytes
 //! of its standard output.
 
-use crate::calls::{solve_rule, Buffers, Refusal, Verdict};
+use crate::calls::{shares, solve_rule, Buffers, Refusal, Verdict};
 use crate::Mode;
 use crate::STATES;
 
@@ -52,15 +52,12 @@ fn refused(refusal: Refusal) -> Vec<u8> {
     format!("refused {} {}\n", refusal.number, refusal.place.unwrap_or(0)).into_bytes()
 }
 
-/// Buffers just long enough for a rule (none where i or o is out of range).
+/// Buffers long enough for every rule (none where i or o is out of range).
 pub fn buffers(i: usize, o: usize) -> Buffers {
-    let (i, o) = if i > 4 || o > 4 { (0, 0) } else { (i, o) };
-    Buffers {
-        moves: vec![0; STATES << (i + o)],
-        marks: vec![0; STATES],
-        station: vec![0; STATES << i],
-        outside: vec![0; STATES],
+    if i > 4 || o > 4 {
+        return Buffers::default();
     }
+    Buffers::filled(shares(i, o, STATES), 0)
 }
 
 /// The line of one state.
@@ -80,7 +77,7 @@ fn head(verdict: Verdict) -> String {
 
 /// What the program prints for an input.
 pub fn airtable(bytes: &[u8]) -> Vec<u8> {
-    let Some(lines) = lines(bytes) else { return refused(Refusal { number: 14, place: None }) };
+    let Some(lines) = lines(bytes) else { return refused(Refusal::plain(14)) };
     let mut buffers = buffers(lines.i, lines.o);
     match solve_rule(lines.i, lines.o, lines.mode, &lines.rule, &lines.condition, &mut buffers) {
         Err(refusal) => refused(refusal),

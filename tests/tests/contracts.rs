@@ -19,6 +19,7 @@ const PROMISES: &[Row] = &[
     ("reader::refusal::text_refusal", &["afterText subject reading Nothing"]),
     ("reader::refusal::number_of", &["numberOf"]),
     ("reader::refusal::place_of", &["placeOf"]),
+    ("reader::refusal::needed_of", &["neededOf"]),
     ("automaton::alphabet::bad_alphabet", &["badAlphabet"]),
     ("automaton::alphabet::power", &["cond (leb k (2 * nameLimit)) (2 ^ k) 0"]),
     ("automaton::alphabet::first_over", &["firstOver"]),

@@ -107,7 +107,7 @@ fn three_methods_agree() {
 
 #[test]
 fn limits_on_nodes_operators_and_length() {
-    let refusal = |number| Err(Refusal { number, place: None });
+    let refusal = |number| Err(Refusal::plain(number));
     let chain = |nodes: usize| format!("{}a", "!".repeat(nodes - 1)).into_bytes();
     assert!(try_rule(1, 1, &chain(64), &[1]).is_ok());
     assert_eq!(try_rule(1, 1, &chain(65), &[1]), refusal(5));
@@ -120,12 +120,12 @@ fn limits_on_nodes_operators_and_length() {
     assert!(try_rule(1, 1, &parentheses, &[1]).is_ok());
     let solve = |rule: &[u8], condition: &[u8]| solve_rule(1, 1, Fair, rule, condition, &mut buffers(1, 1));
     assert!(solve(b"Fp", &chain(64)).is_ok());
-    assert_eq!(solve(b"Fp", &chain(65)), Err(Refusal { number: 8, place: None }));
-    assert_eq!(solve(b"Fp", &blanks(256)), Err(Refusal { number: 2, place: None }));
-    assert_eq!(solve(b"FFFFFFp", b"p"), Err(Refusal { number: 6, place: None }));
-    assert_eq!(solve(&chain(65), b"p"), Err(Refusal { number: 5, place: None }));
-    assert_eq!(solve(b"q", b"p"), Err(Refusal { number: 4, place: Some(0) }));
-    assert_eq!(solve(b"p", b"!p"), Err(Refusal { number: 7, place: Some(1) }));
+    assert_eq!(solve(b"Fp", &chain(65)), Err(Refusal::plain(8)));
+    assert_eq!(solve(b"Fp", &blanks(256)), Err(Refusal::plain(2)));
+    assert_eq!(solve(b"FFFFFFp", b"p"), Err(Refusal::plain(6)));
+    assert_eq!(solve(&chain(65), b"p"), Err(Refusal::plain(5)));
+    assert_eq!(solve(b"q", b"p"), Err(Refusal::placed(4, 0)));
+    assert_eq!(solve(b"p", b"!p"), Err(Refusal::placed(7, 1)));
 }
 
 #[test]

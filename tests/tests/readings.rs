@@ -208,10 +208,10 @@ fn the_theorem_has_the_proved_readings() {
 #[test]
 fn run_readings() {
     assert!(solve(1, 1, Fair, "1", "XXXXXa").is_ok());
-    assert_eq!(solve(1, 1, Fair, "1", "XXXXXXa"), Err(Refusal { number: 6, place: None }));
-    assert_eq!(solve(1, 1, Fair, "1", ""), Err(Refusal { number: 4, place: Some(0) }));
+    assert_eq!(solve(1, 1, Fair, "1", "XXXXXXa"), Err(Refusal::plain(6)));
+    assert_eq!(solve(1, 1, Fair, "1", ""), Err(Refusal::placed(4, 0)));
     let rule = "F((a|Gp)&(b|Gq)&(c|Gr)&(d|Gs))";
-    assert_eq!(solve(4, 4, Fair, "1", rule), Err(Refusal { number: 9, place: None }));
+    assert_eq!(solve(4, 4, Fair, "1", rule), Err(Refusal::plain(9)));
     let tree = read(rule.as_bytes(), Wording::rule(4, 4)).unwrap();
     assert_eq!(build(&tree, 4, 4, 100_000).unwrap().n(), 169);
 }
@@ -271,7 +271,7 @@ fn mistake_strong_next_at_the_last_letter() {
 fn mistake_marked_start_taken_as_won() {
     // State 0 is marked but every step leads to state 1, which is not and stays.
     let given = Given { n: 2, moves: vec![1; 8], marks: vec![1, 0], start: 0, mask: 3 };
-    let (mut station, mut outside) = (vec![7; 256], vec![7; 128]);
+    let (mut station, mut outside) = (vec![7; 4], vec![7; 2]);
     assert_eq!(solve_given(1, 1, Fair, &given, &mut station, &mut outside), Ok(cannot(2)));
     // State 0 is marked and entered again: now it counts.
     let given = Given { n: 1, moves: vec![0; 4], marks: vec![9], start: 0, mask: 3 };

@@ -118,6 +118,41 @@ pub fn any_mode(chance: &mut Chance) -> Mode {
     }
 }
 
+/// The four buffers, in the order of the calls.
+pub const BUFFERS: [&str; 4] = ["moves", "marks", "station", "outside"];
+
+/// How a lent length stands to the share that is needed.
+pub fn fit(told: usize, share: usize) -> &'static str {
+    match told {
+        _ if told >= share => "enough",
+        0 => "empty",
+        _ if told + 1 == share => "one byte short",
+        _ => "shorter",
+    }
+}
+
+/// What refusal 3 is counted as: the one buffer that is short, or that all are empty, or that several are short.
+pub fn short_kind(names: &[&str], told: &[usize], shares: &[usize]) -> String {
+    let fits: Vec<&str> = told.iter().zip(shares).map(|(&told, &share)| fit(told, share)).collect();
+    let short: Vec<usize> = (0..fits.len()).filter(|&k| fits[k] != "enough").collect();
+    match short[..] {
+        [k] => format!("{} alone, {}", names[k], fits[k]),
+        _ if fits.iter().all(|&fit| fit == "empty") => "all empty".into(),
+        _ => "several".into(),
+    }
+}
+
+/// What a served call is counted as: the buffers that are longer than their share, whose rest must stay as it was.
+pub fn room_kind(names: &[&str], told: &[usize], shares: &[usize]) -> String {
+    let longer: Vec<&str> = (0..names.len()).filter(|&k| told[k] > shares[k]).map(|k| names[k]).collect();
+    match longer[..] {
+        [] => "all exact".into(),
+        [name] => format!("{name} alone longer"),
+        _ if longer.len() == names.len() => "all longer".into(),
+        _ => "several longer".into(),
+    }
+}
+
 /// A buffer length that suffices: exact, one more, or some more.
 pub fn enough(chance: &mut Chance, exact: usize) -> usize {
     match chance.below(4) {

@@ -4,7 +4,7 @@ use crate::capi::{self, Followed};
 use crate::common::*;
 use crate::givens::Case;
 use crate::tally::Tally;
-use solver::calls::{follow, Lent as Shown, Refusal, Step};
+use solver::calls::{follow, shares, Lent as Shown, Refusal, Step};
 use solver::chance::Chance;
 
 /// One call of the follower.
@@ -47,6 +47,18 @@ fn check_refused(call: &Call, told: Followed, refusal: Refusal) -> Result<(), St
     check_stays(call, told)
 }
 
+/// Counts a refusal: with 3 by the buffers that are short.
+fn count_refused(call: &Call, refusal: Refusal, tally: &mut Tally) {
+    let name = format!("follower: refused {:2}", refusal.number);
+    if let Some(n) = refusal.needed {
+        let Shown { moves, marks, station, .. } = call.lent;
+        let told = [moves.len(), marks.len(), station.len()];
+        let kind = short_kind(&BUFFERS[..3], &told, &shares(call.i, call.o, n)[..3]);
+        tally.count(format!("{name}, {kind}"));
+    }
+    tally.count(name);
+}
+
 /// One call compared; hands back the step.
 fn compare(call: &Call, tally: &mut Tally) -> Result<Option<Step>, String> {
     let Shown { n, moves, marks, station } = call.lent;
@@ -62,7 +74,7 @@ fn compare(call: &Call, tally: &mut Tally) -> Result<Option<Step>, String> {
             check_served(call, told, step).map(|()| step)
         }
         Err(refusal) => {
-            tally.count(format!("follower: refused {:2}", refusal.number));
+            count_refused(call, refusal, tally);
             check_refused(call, told, refusal).map(|()| None)
         }
     }

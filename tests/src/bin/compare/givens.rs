@@ -4,11 +4,11 @@
 use crate::capi::{self, mode_byte};
 use crate::common::*;
 use crate::tally::{Served, Tally};
-use solver::calls::{game_of_given, solve_given, Given, Verdict};
+use solver::calls::{game_of_given, shares, solve_given, Given, Refusal, Verdict};
 use solver::chance::Chance;
 use solver::judge::judge;
 use solver::makers::{game_shape, outside_shape, round_shape};
-use solver::Mode;
+use solver::{Mode, STATES};
 
 /// One call for a given automaton.
 pub struct Case {
@@ -37,7 +37,7 @@ impl Case {
 
     /// A case on an automaton, with buffers that are long enough.
     fn on(chance: &mut Chance, (i, o): (usize, usize), given: Given) -> Case {
-        let (station, outside) = (enough(chance, 128 << i), enough(chance, 128));
+        let (station, outside) = (enough(chance, given.n << i), enough(chance, given.n));
         Case {
             i,
             o,
@@ -46,6 +46,20 @@ impl Case {
             station: Lent::new(chance, station),
             outside: Lent::new(chance, outside),
         }
+    }
+
+    /// The lengths of the four buffers.
+    fn lengths(&self) -> [usize; 4] {
+        [self.given.moves.len(), self.given.marks.len(), self.station.told, self.outside.told]
+    }
+
+    /// Counts a refusal: with 3 by the buffers that are short.
+    fn count_refused(&self, refusal: Refusal, tally: &mut Tally) {
+        let name = format!("given: refused {:2}", refusal.number);
+        if let Some(n) = refusal.needed {
+            tally.count(format!("{name}, {}", short_kind(&BUFFERS, &self.lengths(), &shares(self.i, self.o, n))));
+        }
+        tally.count(name);
     }
 
     /// Compares all that the call writes, and has the tables judged.
@@ -73,9 +87,11 @@ impl Case {
         self.station.check("station", &station)?;
         self.outside.check("outside", &outside)?;
         match wanted {
-            Err(refusal) => tally.count(format!("given: refused {:2}", refusal.number)),
+            Err(refusal) => self.count_refused(refusal, tally),
             Ok(verdict) => {
                 check_answer(told.answer, verdict.can)?;
+                let kind = room_kind(&BUFFERS, &self.lengths(), &shares(self.i, self.o, verdict.n));
+                tally.count(format!("given: served, {kind}"));
                 self.judged(verdict, tally)?;
             }
         }
@@ -182,13 +198,13 @@ fn spoil(chance: &mut Chance, case: &mut Case) {
         }
         5 => case.given.mask |= 1 << chance.below(16),
         6 => {
-            let length = wild_length(chance, 128 << i);
+            let length = wild_length(chance, n.min(STATES) << i);
             case.station = Lent::new(chance, length);
-            let length = wild_length(chance, 128);
+            let length = wild_length(chance, n.min(STATES));
             case.outside = Lent::new(chance, length);
         }
         _ => {
-            let (moves, marks) = (wild_length(chance, n.min(128) << (i + o)), wild_length(chance, n.min(128)));
+            let (moves, marks) = (wild_length(chance, n.min(STATES) << (i + o)), wild_length(chance, n.min(STATES)));
             if chance.one_in(2) {
                 case.given.moves.resize(moves, 0)
             } else {
@@ -206,6 +222,36 @@ pub fn faults(chance: &mut Chance, tally: &mut Tally) -> Result<(), String> {
     let mut case = Case::good(chance, i, o, n);
     for _ in 0..chance.between(1, 3) {
         spoil(chance, &mut case);
+    }
+    case.run(chance, tally)
+}
+
+/// Buffers about the share of n states: one a byte short, or longer, or empty, the others exact or longer; or all exact.
+/// Now and then a second fault, which comes before or after.
+pub fn buffers(chance: &mut Chance, tally: &mut Tally) -> Result<(), String> {
+    let most = chance.pick(&[2, 5, 12, 128]);
+    let n = chance.between(1, most);
+    let (i, o) = if n > 20 { (chance.below(3), chance.below(3)) } else { (chance.below(5), chance.below(5)) };
+    let mut case = Case::good(chance, i, o, n);
+    let exact = shares(i, o, n);
+    let mut lengths = if chance.one_in(2) { exact } else { exact.map(|share| enough(chance, share)) };
+    let k = chance.below(4);
+    match chance.below(6) {
+        0 | 1 => lengths[k] = exact[k] - 1,
+        2 => lengths[k] = exact[k] + chance.pick(&[1, 1, 7, 300]),
+        3 => lengths[k] = 0,
+        4 => lengths = [0; 4],
+        _ => {}
+    }
+    case.given.moves.resize(lengths[0], 0);
+    case.given.marks.resize(lengths[1], 0);
+    case.station = Lent::new(chance, lengths[2]);
+    case.outside = Lent::new(chance, lengths[3]);
+    match chance.below(16) {
+        0 => case.given.start = n,
+        1 => case.given.mask |= 1 << chance.below(16),
+        2 => case.given.n = chance.pick(&[0, 129]),
+        _ => {}
     }
     case.run(chance, tally)
 }

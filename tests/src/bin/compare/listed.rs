@@ -113,6 +113,6 @@ pub fn tiny_game(case: u64, chance: &mut Chance, tally: &mut Tally) -> Result<()
         start: bit(12) as usize,
     };
     let mode = if bit(13) == 0 { Mode::Fair } else { Mode::Stable };
-    let (station, outside) = (Lent::new(chance, 256), Lent::new(chance, 128));
+    let (station, outside) = (Lent::new(chance, 4), Lent::new(chance, 2));
     Case { i: 1, o: 1, mode, given, station, outside }.run(chance, tally)
 }

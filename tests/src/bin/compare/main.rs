@@ -37,7 +37,7 @@ enum Run {
 
 use Run::*;
 
-const KINDS: [Kind; 22] = [
+const KINDS: [Kind; 24] = [
     Kind { name: "readings", count: sources::READINGS_COUNT, run: Listed(sources::reading) },
     Kind { name: "published", count: sources::PUBLISHED_COUNT, run: Listed(sources::published) },
     Kind { name: "trial-short", count: listed::SHORT_TEXTS, run: Listed(listed::short_text) },
@@ -49,7 +49,7 @@ const KINDS: [Kind; 22] = [
     Kind { name: "rule-games", count: 15_000, run: Random(rules::games) },
     Kind { name: "rule-plays", count: 6_000, run: Random(plays::rule_plays) },
     Kind { name: "rule-faults", count: 30_000, run: Random(rules::faults) },
-    Kind { name: "rule-buffers", count: 4_000, run: Random(rules::buffers) },
+    Kind { name: "rule-buffers", count: 8_000, run: Random(rules::buffers) },
     Kind { name: "rule-large", count: 800, run: Random(rules::large) },
     Kind { name: "given-tiny", count: listed::TINY_GAMES, run: Listed(listed::tiny_game) },
     Kind { name: "given-small", count: 50_000, run: Random(givens::small) },
@@ -60,6 +60,8 @@ const KINDS: [Kind; 22] = [
     Kind { name: "given-rounds", count: 30_000, run: Random(givens::rounds) },
     Kind { name: "given-outsides", count: 15_000, run: Random(givens::outsides) },
     Kind { name: "rule-rows", count: 15_000, run: Random(rules::rows) },
+    Kind { name: "rule-many", count: 800, run: Random(rules::many) },
+    Kind { name: "given-buffers", count: 8_000, run: Random(givens::buffers) },
 ];
 
 /// Where the run stands, for the message after a crash inside the library.

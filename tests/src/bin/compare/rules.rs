@@ -4,14 +4,15 @@
 use crate::capi::{self, mode_byte, Told};
 use crate::common::*;
 use crate::tally::{Served, Tally};
-use solver::calls::{game_of_given, solve_rule, Buffers, Given, Refusal, Verdict};
+use solver::calls::{game_of_given, shares, solve_rule, Buffers, Given, Refusal, Verdict};
 use solver::chance::Chance;
 use solver::judge::judge;
+use solver::large::LARGE;
 use solver::makers::{any_condition, any_text, damaged, good_condition, rich_rule, row_rule, rule_text, with_blanks};
 use solver::reader::read;
 use solver::tree::condition_mask;
 use solver::wording::Wording;
-use solver::Mode;
+use solver::{Mode, STATES};
 
 /// One call for a rule.
 pub struct Case {
@@ -26,14 +27,15 @@ pub struct Case {
     pub outside: Lent,
 }
 
-/// The exact lengths of the four buffers (for counts out of range, those of 4).
-fn exact(i: usize, o: usize) -> [usize; 4] {
-    let (i, o) = (i.min(4), o.min(4));
-    [128 << (i + o), 128, 128 << i, 128]
+/// The number of states that the buffers must have room for, which the solver tells one who lends nothing; the most
+/// where the rule or its condition is refused.
+fn states(i: usize, o: usize, rule: &[u8], condition: &[u8]) -> usize {
+    let asked = solve_rule(i, o, Mode::Fair, rule, condition, &mut Buffers::default());
+    asked.expect_err("a rule has a state").needed.unwrap_or(STATES)
 }
 
 impl Case {
-    /// A case with buffers whose lengths are chosen by `length` from the exact ones.
+    /// A case with buffers whose lengths are chosen by `length` from the exact ones (for counts out of range, those of 4).
     pub fn new(
         chance: &mut Chance,
         (i, o): (usize, usize),
@@ -42,12 +44,26 @@ impl Case {
         length: fn(&mut Chance, usize) -> usize,
     ) -> Case {
         let mode = any_mode(chance);
-        let mut lent = exact(i, o).map(|share| {
+        let n = states(i, o, &rule, &condition);
+        let [moves, marks, station, outside] = shares(i.min(4), o.min(4), n).map(|share| {
             let told = length(chance, share);
-            Some(Lent::new(chance, told))
+            Lent::new(chance, told)
         });
-        let [moves, marks, station, outside] = std::array::from_fn(|k| lent[k].take().unwrap());
         Case { i, o, mode, rule, condition, moves, marks, station, outside }
+    }
+
+    /// The same case with other lengths.
+    fn lending(mut self, chance: &mut Chance, lengths: [usize; 4]) -> Case {
+        let lent = [&mut self.moves, &mut self.marks, &mut self.station, &mut self.outside];
+        for (buffer, told) in lent.into_iter().zip(lengths) {
+            *buffer = Lent::new(chance, told);
+        }
+        self
+    }
+
+    /// The lengths of the four buffers.
+    fn lengths(&self) -> [usize; 4] {
+        [&self.moves, &self.marks, &self.station, &self.outside].map(|buffer| buffer.told)
     }
 
     /// The library's answer.
@@ -78,20 +94,42 @@ impl Case {
         let told = self.call(any);
         let (wanted, buffers) = self.wanted();
         check_number(&told, wanted.map(|_| ()))?;
-        check_value("n", told.n, wanted.map_or(0, |verdict| verdict.n))?;
+        let states = wanted.map_or_else(|refusal| refusal.needed.unwrap_or(0), |verdict| verdict.n);
+        check_value("n", told.n, states)?;
         check_value("round", told.round, wanted.map_or(0, |verdict| verdict.round))?;
         self.moves.check("moves", &buffers.moves)?;
         self.marks.check("marks", &buffers.marks)?;
         self.station.check("station", &buffers.station)?;
         self.outside.check("outside", &buffers.outside)?;
         match wanted {
-            Err(refusal) => tally.count(format!("rule: refused {:2}", refusal.number)),
+            Err(refusal) => self.count_refused(refusal, tally),
             Ok(verdict) => {
                 check_answer(told.answer, verdict.can)?;
+                let kind = room_kind(&BUFFERS, &self.lengths(), &shares(self.i, self.o, verdict.n));
+                tally.count(format!("rule: served, {kind}"));
                 self.judged(verdict, tally)?;
             }
         }
         Ok(wanted.ok())
+    }
+
+    /// Counts a refusal: with 3 by the buffers that are short, with 4 to 9 by the buffers that would be if 3 came first.
+    fn count_refused(&self, refusal: Refusal, tally: &mut Tally) {
+        let (number, lengths) = (refusal.number, self.lengths());
+        let name = format!("rule: refused {number:2}");
+        if let Some(n) = refusal.needed {
+            let kind = short_kind(&BUFFERS, &lengths, &shares(self.i, self.o, n));
+            tally.count(format!("{name}, {kind}"));
+        } else if number > 2 && lengths == [0; 4] {
+            tally.count(format!("{name}, all buffers empty"));
+        } else if number > 2 && lengths.contains(&0) {
+            tally.count(format!("{name}, a buffer empty"));
+        } else if number == 9 && lengths == [1; 4] {
+            tally.count(format!("{name}, all buffers of one byte"));
+        } else if number == 9 && (0..4).all(|k| lengths[k] >= shares(self.i, self.o, STATES)[k]) {
+            tally.count(format!("{name}, all buffers full"));
+        }
+        tally.count(name);
     }
 
     /// Has the tables judged, and the winners compared with the fixpoints.
@@ -187,32 +225,86 @@ pub fn faults(chance: &mut Chance, tally: &mut Tally) -> Result<(), String> {
     let rule = faulty(chance, i, o, 5);
     let temporal = if chance.one_in(8) { 1 } else { 0 };
     let condition = faulty(chance, i, 0, temporal);
-    let length = if chance.one_in(4) { wild_length } else { enough };
+    let length = match chance.below(4) {
+        0 => wild_length,
+        1 => |_: &mut Chance, _| 0,
+        _ => enough,
+    };
     Case::new(chance, (i, o), rule, condition, length).run(chance, tally)
 }
 
-/// One buffer one byte short, or all exact, or all longer.
+/// Buffers about the share of n states: one a byte short, exact or longer, empty or cut to fewer states, and the others
+/// exact or longer; or all exact, or for some other number of states. Now and then n is asked for first with no
+/// buffers, and the library's answer is what is lent.
 pub fn buffers(chance: &mut Chance, tally: &mut Tally) -> Result<(), String> {
     let (i, o) = (chance.below(5), chance.below(5));
-    let rule = good_rule(chance, i, o, 5, 2);
+    let rule = if i + o > 0 && chance.one_in(8) { rich_rule(chance, i, o) } else { good_rule(chance, i, o, 5, 2) };
     let condition = good_condition(chance, i);
-    let mut case = Case::new(chance, (i, o), rule, condition, enough);
-    let shares = exact(i, o);
-    let short = chance.below(8);
-    let lent = [&mut case.moves, &mut case.marks, &mut case.station, &mut case.outside];
-    for (k, buffer) in lent.into_iter().enumerate() {
-        if k == short {
-            *buffer = Lent::new(chance, shares[k] - 1);
-        }
+    let case = Case::new(chance, (i, o), rule, condition, enough);
+    let n = states(i, o, &case.rule, &case.condition);
+    let exact = shares(i, o, n);
+    let k = chance.below(4);
+    let mut lengths = if chance.one_in(2) { exact } else { case.lengths() };
+    match chance.below(8) {
+        0 | 1 => lengths[k] = exact[k] - 1,
+        2 => lengths[k] = exact[k] + chance.pick(&[1, 1, 7, 300]),
+        3 => lengths[k] = 0,
+        4 => lengths[k] = shares(i, o, chance.below(n))[k],
+        5 => lengths = shares(i, o, chance.pick(&[n - 1, n + 1, STATES])),
+        6 => return asked(case, chance, tally),
+        _ => {}
     }
-    case.run(chance, tally)
+    case.lending(chance, lengths).run(chance, tally)
+}
+
+/// Asks the library for n with no buffers, and lends as much as it says.
+fn asked(case: Case, chance: &mut Chance, tally: &mut Tally) -> Result<(), String> {
+    let any = chance.byte();
+    let mut case = case.lending(chance, [0; 4]);
+    let n = case.call(any).n;
+    case.compare(any, tally).map_err(|what| case.print(what))?;
+    if n == 0 {
+        return Ok(());
+    }
+    tally.count("rule: asked for n and then lent so much".into());
+    let lengths = shares(case.i, case.o, n);
+    let mut case = case.lending(chance, lengths);
+    match case.compare(any, tally).map_err(|what| case.print(what))? {
+        Some(verdict) if verdict.n == n => Ok(()),
+        _ => Err(case.print(format!("asked for n the library said {n}, and lent so much it refuses"))),
+    }
+}
+
+/// Rules of which most have more than 128 states, with buffers of every length: none, one byte, the share of 128 states
+/// or of more, or a byte less.
+pub fn many(chance: &mut Chance, tally: &mut Tally) -> Result<(), String> {
+    let (i, o, rule) = if chance.one_in(4) {
+        let (i, o) = (chance.between(2, 4), chance.between(2, 4));
+        (i, o, rich_rule(chance, i, o))
+    } else {
+        let above: Vec<_> = LARGE.iter().filter(|row| row.0 > STATES).collect();
+        let &(_, i, o, rule) = chance.pick(&above);
+        (i, o, rule.to_vec())
+    };
+    let condition = if chance.one_in(8) { any_condition(chance, i) } else { good_condition(chance, i) };
+    let case = Case::new(chance, (i, o), rule, condition, enough);
+    let full = shares(i, o, STATES);
+    let lengths = match chance.below(6) {
+        0 => [0; 4],
+        1 => [1; 4],
+        2 => full,
+        3 => shares(i, o, STATES + chance.below(80)),
+        4 => full.map(|share| chance.pick(&[0, 1, share - 1, share, share + 1])),
+        _ => full.map(|share| wild_length(chance, share)),
+    };
+    case.lending(chance, lengths).run(chance, tally)
 }
 
 /// Rules with many states: the ones of `LARGE`, and random ones.
 pub fn large(chance: &mut Chance, tally: &mut Tally) -> Result<(), String> {
     let (i, o, rule) = match chance.below(3) {
         0 => {
-            let (_, i, o, rule) = chance.pick(solver::large::LARGE);
+            let (_, i, o, rule) = chance.pick(LARGE);
             (i, o, rule.to_vec())
         }
         1 => {

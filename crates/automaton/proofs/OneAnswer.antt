@@ -114,7 +114,8 @@ module _ {i o room : ℕ} {text t a t₁ a₁ t₂ a₂ : List ℕ} {r r′ : Co
       let v = y .served (sym same-construction-refusal ∙ n) in
       one-automaton (letterCount i o) (pow-pos (i + o)) (u .formula) (v .formula) (one-formula i o true text (u .good .reads) (v .good .reads))
       (x .states) (y .states) (x .counted (u .formula) (u .good) ∙ sym (y .counted (u .formula) (u .good))) t a t₁ a₁ t₂ a₂
-      (u .automaton, u .transitions-kept, u .accepting-kept) (v .automaton, v .transitions-kept, v .accepting-kept))
+      record { automaton = u .automaton; transitions-kept = u .transitions-kept; accepting-kept = u .accepting-kept }
+      record { automaton = v .automaton; transitions-kept = v .transitions-kept; accepting-kept = v .accepting-kept })
       (λ n.
       let e = something (x .refusal) n in
       let u = x .untouched e in

@@ -8,8 +8,8 @@ use Rattle.machine.specs.Machine.{Machine}
 use Rattle.machine.specs.Automaton as machine
 use Rattle.machine.proofs.OneAutomaton.{one-transition, one-flag}
 use Rattle.reader.specs.Formula.{Formula}
-use Rattle.automaton.specs.Automaton.{Automaton}
 use Rattle.automaton.specs.Buffer.{Kept}
+use Rattle.automaton.specs.inner.Exploration.{Written}
 use Rattle.automaton.proofs.BufferLaws.{one-buffer}
 
 -- the automaton of a machine, with the rest of the buffers kept, is one
@@ -21,13 +21,11 @@ module _ {S : Type 0} {M : Machine S} {Good Good′ : Trace → Type 0} {L limit
   pub one-accepting : (old : List ℕ) → Kept n old a → Kept n old a′ → a ≡ a′
   one-accepting old c d = one-buffer n old a a′ c d (one-flag x y)
 
--- the buffers of a served call: the automaton with n states, and the rest kept
-abbrev pub Built : (φ : Formula) (L n : ℕ) (t a t′ a′ : List ℕ) → Type 0
-Built φ L n t a t′ a′ = Automaton φ L n t′ a′ × Kept (n * L) t t′ × Kept n a a′
-
 -- a formula and its letters determine both buffers
 pub one-automaton : (L : ℕ) → 0 < L → (φ ψ : Formula) → φ ≡ ψ → (n m : ℕ) → n ≡ m → (t a t₁ a₁ t₂ a₂ : List ℕ)
-    → Built φ L n t a t₁ a₁ → Built ψ L m t a t₂ a₂ → (t₁ ≡ t₂) × (a₁ ≡ a₂)
+    → Written φ L n t a t₁ a₁ → Written ψ L m t a t₂ a₂ → (t₁ ≡ t₂) × (a₁ ≡ a₂)
 one-automaton L pos φ ψ e n m f t a t₁ a₁ t₂ a₂ x y =
-    let z : Built φ L n t a t₂ a₂ = subst₂ (λ (χ : Formula) (k : ℕ). Built χ L k t a t₂ a₂) (sym e) (sym f) y in
-    (one-transitions (x .0) (z .0) pos t (x .1) (z .1), one-accepting (x .0) (z .0) a (x .2) (z .2))
+    let z : Written φ L n t a t₂ a₂ = subst₂ (λ (χ : Formula) (k : ℕ). Written χ L k t a t₂ a₂) (sym e) (sym f) y in (
+      one-transitions (x .automaton) (z .automaton) pos t (x .transitions-kept) (z .transitions-kept),
+      one-accepting (x .automaton) (z .automaton) a (x .accepting-kept) (z .accepting-kept),
+    )

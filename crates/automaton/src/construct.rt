@@ -122,7 +122,8 @@ fn build_nodes(
 {
     let width = operator_count(nodes, count) + 1;
     let end = end_vector(nodes, count, width);
-    let table = tabulate(nodes, count, width, letters);
+    let mut table = [0u8; TABLE_SIZE];
+    tabulate(nodes, count, width, letters, &mut table);
     build(&table, width, end, letters, room, transitions, accepting)
 }
 

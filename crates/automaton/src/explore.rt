@@ -37,15 +37,15 @@ pub(crate) fn successor(table: &[u8; TABLE_SIZE], letter: usize, vectors: u64, s
     r
 }
 
-// The slot of a state: where the guess of its place is kept.
-pub(crate) fn slot_of(state: u64) -> usize
+// Which slot has the guess where a state stands.
+pub(crate) fn state_slot(state: u64) -> usize
     ensures { λ r. ⌜ r < slotCount ⌝ }
 {
     (state % SLOT_COUNT as u64) as usize
 }
 
-// A place of x among the first n states, the guess if it is one, or n where x is not there.
-pub(crate) fn place_of(states: &[u64], n: usize, x: u64, guess: usize) -> usize
+// Where x stands among the first n states: at the guess, or wherever a search from the front meets it; n where it does not stand among them.
+pub(crate) fn find_state(states: &[u64], n: usize, x: u64, guess: usize) -> usize
     requires { ⌜ n ≤ length (now states) ⌝ }
     ensures { λ r. ⌜ Place (wordAt (now (states .entry))) n x r ⌝ }
 {
@@ -64,8 +64,9 @@ pub(crate) fn place_of(states: &[u64], n: usize, x: u64, guess: usize) -> usize
     i
 }
 
-// Looks at every letter of state s, and puts the states that it finds at the end of the list; a letter with an earlier twin leads where the
-// twin does. Returns the number of states, or one more than STATE_LIMIT where there are more. The slots carry no promise: a guess is tried.
+// Lists what the letters of state s lead to: a state that is not on the list yet comes to its end, and a letter with an earlier twin has
+// nothing to add. Returns how many states are listed, or one more than STATE_LIMIT where the list would grow beyond it. Nothing is promised
+// of the slots, since a guess is compared before it counts.
 fn list_letters(
     table: &[u8; TABLE_SIZE],
     twins: &[u8; LETTER_LIMIT],
@@ -91,8 +92,8 @@ fn list_letters(
             continue;
         }
         let x = successor(table, a, vectors, list[s]);
-        let k = slot_of(x);
-        let p = place_of(list, n, x, wide(slots[k]));
+        let k = state_slot(x);
+        let p = find_state(list, n, x, wide(slots[k]));
         if p == STATE_LIMIT {
             return STATE_LIMIT + 1;
         }
@@ -106,8 +107,8 @@ fn list_letters(
     n
 }
 
-// Lists the states in the order of their discovery, and guesses of their places in the slots. Returns their number, or one more than
-// STATE_LIMIT where there are more.
+// Lists all states in the order of their discovery; the slots keep guesses where they stand. Returns how many there are, or one more than
+// STATE_LIMIT where there are too many.
 pub(crate) fn list_states(
     table: &[u8; TABLE_SIZE],
     twins: &[u8; LETTER_LIMIT],

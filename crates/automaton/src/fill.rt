@@ -11,14 +11,14 @@ ghost use Rattle.automaton.specs.inner.Representation.{Tabulates, Twins}
 ghost use Rattle.automaton.specs.inner.Exploration.{AllListed, Filled};
 use crate::bits::test_bit;
 use crate::bytes::wide;
-use crate::explore::place_of;
-use crate::explore::slot_of;
+use crate::explore::find_state;
+use crate::explore::state_slot;
 use crate::explore::successor;
 use crate::limits::LETTER_LIMIT;
 use crate::limits::SLOT_COUNT;
 use crate::limits::TABLE_SIZE;
 
-// Where the letters of state s lead: a letter with an earlier twin where the twin does, and any other to the place of the state after it.
+// Writes the transitions of state s: the twin's for a letter that has an earlier one, and else where the state after the letter stands.
 fn fill_row(
     table: &[u8; TABLE_SIZE],
     twins: &[u8; LETTER_LIMIT],
@@ -47,14 +47,14 @@ fn fill_row(
             continue;
         }
         let x = successor(table, a, vectors, list[s]);
-        let k = slot_of(x);
-        let p = place_of(list, n, x, wide(slots[k]));
+        let k = state_slot(x);
+        let p = find_state(list, n, x, wide(slots[k]));
         transitions[row + a] = p as u8;
         a += 1;
     }
 }
 
-// Fills the transitions of the n states.
+// Writes the transitions of the n states, one row after the other.
 pub(crate) fn fill_transitions(
     table: &[u8; TABLE_SIZE],
     twins: &[u8; LETTER_LIMIT],

@@ -35,5 +35,5 @@ pub const PAIR_LIMIT: usize = VECTOR_LIMIT / 2;
 // Entries of the table: one for each letter and pair.
 pub const TABLE_SIZE: usize = LETTER_LIMIT * PAIR_LIMIT;
 
-// Slots of guesses where a state stands in the list: a prime, well above STATE_LIMIT.
+// Slots of guesses, where a state stands in the list and which letter has the same row: a prime, well above STATE_LIMIT and LETTER_LIMIT.
 pub const SLOT_COUNT: usize = 1021;

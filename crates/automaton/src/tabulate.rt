@@ -61,20 +61,19 @@ fn fill_rows(
     }
 }
 
-// The table: entry letter * PAIR_LIMIT + k is the valuation that the letter makes from 2 * k. From 2 * k + 1 it makes the same, since the next
+// Fills the table: entry letter * PAIR_LIMIT + k is the valuation that the letter makes from 2 * k. From 2 * k + 1 it makes the same, since the next
 // position's coordinate 0 is read by no operator.
 pub(crate) fn tabulate(
     nodes: &[usize; NODE_LIMIT],
     count: usize,
     width: u64,
     letters: usize,
-) -> [u8; TABLE_SIZE]
+    table: &mut [u8; TABLE_SIZE],
+)
     requires { ⌜ (count ≤ nodeLimit) × (width ≤ coordinateLimit) × (letters ≤ letterLimit) ⌝ }
-    ensures { λ r. ⌜ ((φ : Formula) → Represents (now (nodes .entry)) count φ → width ≡ suc (operators φ) → Tabulates φ letters r) ⌝ }
+    ensures { λ _. ⌜ ((φ : Formula) → Represents (now (nodes .entry)) count φ → width ≡ suc (operators φ) → Tabulates φ letters (now (table .exit))) ⌝ }
 {
     let places = operator_nodes(nodes, count);
     let entries = ((1u64 << width) / 2) as usize;
-    let mut table = [0u8; TABLE_SIZE];
-    fill_rows(nodes, &places, count, width, entries, letters, &mut table);
-    table
+    fill_rows(nodes, &places, count, width, entries, letters, table);
 }

@@ -4,16 +4,14 @@ ghost use mathlib.Core.Bool.{true};
 ghost use Prim.Native.Nat.{_≤_, _<_};
 ghost use lib.ListN.{length};
 ghost use Rattle.automaton.specs.Limits.{letterLimit};
-ghost use Rattle.automaton.specs.inner.Sizes.{pairLimit};
-ghost use Rattle.automaton.specs.inner.Representation.{SameRow, slotCount, Twins};
+ghost use Rattle.automaton.specs.inner.Sizes.{pairLimit, slotCount};
+ghost use Rattle.automaton.specs.inner.Representation.{SameRow, Twins};
 use crate::bytes::wide;
 use crate::limits::ENTRY_LIMIT;
 use crate::limits::LETTER_LIMIT;
 use crate::limits::PAIR_LIMIT;
+use crate::limits::SLOT_COUNT;
 use crate::limits::TABLE_SIZE;
-
-// The number of slots.
-const SLOTS: usize = 1021;
 
 // What is kept of a key, so that one more entry fits into the word: 56 bits.
 const KEYS: usize = 0x100_0000_0000_0000;
@@ -48,7 +46,7 @@ fn slot_of(table: &[u8; TABLE_SIZE], entries: usize, letter: usize) -> usize
         key = (key % KEYS) * 127 + entry as usize;
         k += 1;
     }
-    key % SLOTS
+    key % SLOT_COUNT
 }
 
 // The letter b, if it is smaller and has the same row, and else the letter itself.
@@ -94,7 +92,7 @@ pub(crate) fn find_twins(
     requires { ⌜ (entries ≤ pairLimit) × (letters ≤ letterLimit) ⌝ }
     ensures { λ r. ⌜ Twins letters entries (now (table .entry)) r ⌝ }
 {
-    let mut slots = [0u8; SLOTS];
+    let mut slots = [0u8; SLOT_COUNT];
     let mut twins = [0u8; LETTER_LIMIT];
     fill_twins(table, entries, letters, &mut slots, &mut twins);
     twins

@@ -42,13 +42,12 @@ use Rattle.game.specs.declared.follow.Followed.{Followed}
 use Rattle.game.specs.Answer.{verdictOf}
 use Rattle.game.specs.Tables.{needLimit, SystemState, EnvironmentState, Tables, Verdict}
 use Rattle.game.specs.Given.{givenRefusal, GivenSolved}
-use Rattle.game.specs.Rule.{Buffers, ruleRefusal, RuleSolved}
+use Rattle.game.specs.Rule.{Buffers, sizeRefusal, ruleRefusal, RuleSolved}
 use Rattle.game.specs.Follower.{FollowedBy}
 use Rattle.game.specs.Agreement.{GivenAgree, RuleAgree}
 use Rattle.game.proofs.IndexLaws.{next-below}
 use Rattle.game.proofs.GivenLaws.{accepted}
 use Rattle.game.proofs.RuleLaws.{automaton-closed}
-use Rattle.game.proofs.RuleCheckLaws.{sizeRefusal}
 
 -- ---- tables and verdict of one arena
 
@@ -178,7 +177,8 @@ module _ {mode : Mode} {i o : ℕ} {rule condition : List ℕ} {old new new′ :
         let v = y .served (sym same-refusal ∙ z) .2 in
         one-automaton (letterCount i o) (pow-pos (i + o)) (u .formula) (v .formula) (one-formula i o true rule (u .good .reads) (v .good .reads))
         (x .states) (y .states) (x .counted (u .formula) (u .good) ∙ sym (y .counted (u .formula) (u .good))) _ _ _ _ _ _
-        (u .automaton, u .transitions-kept, u .accepting-kept) (v .automaton, v .transitions-kept, v .accepting-kept)
+        record { automaton = u .automaton; transitions-kept = u .transitions-kept; accepting-kept = u .accepting-kept }
+        record { automaton = v .automaton; transitions-kept = v .transitions-kept; accepting-kept = v .accepting-kept }
 
     -- what the second run left, on the first run's arena
     moved : (n m : ℕ) → m ≡ n → (κ χ : Formula) → χ ≡ κ → (k : ℕ)

@@ -29,10 +29,9 @@ use Rattle.plays.specs.declared.mode.Mode.{Mode}
 use Rattle.plays.specs.Arena.{arena}
 use Rattle.game.specs.inner.Game.{Valid}
 use Rattle.game.specs.Tables.{Tables, Verdict}
-use Rattle.game.specs.Rule.{Buffers, buffers, shortBuffers, ruleRefusal, RuleSolved}
+use Rattle.game.specs.Rule.{Buffers, buffers, shortBuffers, sizeRefusal, ruleRefusal, RuleSolved}
 use Rattle.game.specs.inner.RuleChecks.{TestsPassed, RuleChecked}
 use Rattle.game.proofs.AnswerLaws.{verdict-number, verdict-place}
-use Rattle.game.proofs.RuleCheckLaws.{sizeRefusal}
 use Rattle.game.proofs.RuleLaws.{some-state, automaton-valid, can-keep, cannot-keep, round-keep}
 
 -- refused before the states are counted

@@ -26,7 +26,7 @@ use Rattle.automaton.specs.Limits.{stateLimit}
 use Rattle.automaton.specs.Alphabet.{badAlphabet}
 use Rattle.automaton.specs.Condition.{Judges, maskOf, conditionRefusal, Conditioned}
 use Rattle.automaton.proofs.AlphabetLaws.{inputs-fit}
-use Rattle.game.specs.Rule.{Buffers, shortBuffers, ruleRefusal}
+use Rattle.game.specs.Rule.{Buffers, sizeRefusal, ruleRefusal}
 use Rattle.game.specs.inner.RuleChecks.{RuleChecked}
 
 -- ---- the condition's own call, once its alphabet and length are in range
@@ -96,10 +96,6 @@ with-mask i o condition mask a b c =
     (refused-or-served (c .refusal))
 
 -- ---- the tests in their order
-
--- what comes after the texts, by the number of states
-abbrev pub sizeRefusal : (i o : ℕ) (old : Buffers) (n : ℕ) → Refusal
-sizeRefusal i o old n = cond (ltb stateLimit n) StateCount (cond (shortBuffers i o n old) (Buffer n) Nothing)
 
 module _ (i o : ℕ) (rule condition : List ℕ) (mask : ℕ) where
   refused : (ρ : Reading) → ReadingOf i (ruleKind i o) rule ρ → (κ : Reading) → ReadingOf i (conditionKind i) condition κ → (x : Refusal) → isNothing x ≡ false

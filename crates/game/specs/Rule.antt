@@ -66,6 +66,10 @@ shortBuffers i o n old =
     shortAutomaton (letterCount i o) n (old .transitions) (old .accepting)
     || (ltb (length (old .system)) (n * 2 ^ i) || ltb (length (old .environment)) n)
 
+-- the refusals once the states are counted: 9, and 3 by their number
+abbrev pub sizeRefusal : (i o : ℕ) (old : Buffers) (n : ℕ) → Refusal
+sizeRefusal i o old n = cond (ltb stateLimit n) StateCount (cond (shortBuffers i o n old) (Buffer n) Nothing)
+
 -- the refusal that comes first, for texts with the readings ρ and κ and a rule with n states
 unfoldable pub ruleRefusal : (i o : ℕ) (rule condition : Text) (old : Buffers) (ρ κ : Reading) (n : ℕ) → Refusal
 ruleRefusal i o rule condition old ρ κ n =
@@ -73,8 +77,7 @@ ruleRefusal i o rule condition old ρ κ n =
     (cond (tooLong rule || tooLong condition) TextLength
     (afterRule ρ
     (afterCondition κ
-    (cond (ltb stateLimit n) StateCount
-    (cond (shortBuffers i o n old) (Buffer n) Nothing)))))
+    (sizeRefusal i o old n))))
 
 -- a served call: the formulas of the two texts, the automaton, both tables, the verdict with its round number r and what it promises
 pub record RuleServed (mode : Mode) (i o : ℕ) (rule condition : Text) (old new : Buffers) (n r : ℕ) : Type 0 where

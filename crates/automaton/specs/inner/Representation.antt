@@ -25,10 +25,6 @@ Tabulates φ L table = (a k : ℕ) → a < L → 2 * k < vectors φ → getD tab
 abbrev pub SameRow : (table : List ℕ) (m a b : ℕ) → Type 0
 SameRow table m a b = (k : ℕ) → k < m → getD table (a * pairLimit + k) 0 ≡ getD table (b * pairLimit + k) 0
 
--- the slots in which twins are looked for
-abbrev pub slotCount : ℕ
-slotCount = 1021
-
 -- each letter's twin is the letter itself or an earlier one whose row has the same first m entries
 unfoldable pub Twins : (L m : ℕ) (table twins : List ℕ) → Type 0
 Twins L m table twins = (a : ℕ) → a < L → (getD twins a 0 ≤ a) × SameRow table m (getD twins a 0) a

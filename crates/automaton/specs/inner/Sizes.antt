@@ -19,6 +19,6 @@ vectorLimit = 2 ^ coordinateLimit
 abbrev pub pairLimit : ℕ
 pairLimit = vectorLimit / 2
 
--- slots for guesses of a state's place in the list
+-- slots of guesses, where a state stands in the list and which letter has the same row
 abbrev pub slotCount : ℕ
 slotCount = 1021

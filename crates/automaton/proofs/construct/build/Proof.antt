@@ -89,10 +89,10 @@ returns c =
     let a = s .args in
     λ φ tab e f.
     built-beyond φ (a .letters) (a .room) (a .transitions .now) (a .accepting .now) (x .list-states .result) (x .list-states .last .1 .1 .1 .1 .1 .1 .0)
-    (s .pre .3) (listed x φ tab e) (c .if1 .taken)
+    (s .pre .3) (listed x φ tab e) (let h = c .if1 .taken in omega arith)
 
 short-automaton-requires : tie.Need-short-automaton-requires
-short-automaton-requires c κs = let e = c .before .before in (begin (e .before .before) .pre .4, e .if1 .left)
+short-automaton-requires c κs = let e = c .before .before in (begin (e .before .before) .pre .4, omega (arith, e .if1 .left))
 
 same-length : tie.Need-same-length
 same-length c = search needs

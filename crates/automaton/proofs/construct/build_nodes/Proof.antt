@@ -33,14 +33,17 @@ end-vector-requires : tie.Need-end-vector-requires
 end-vector-requires c κs = (short (c .before .before .before), narrow c)
 
 tabulate-requires : tie.Need-tabulate-requires
-tabulate-requires c κs = (short (c .before .before .before .before), narrow (c .before), c .before .before .before .before .pre .1 .1)
+tabulate-requires c κs =
+    let e = c .before in
+    (short (e .before .before .before .before), narrow (e .before), e .before .before .before .before .pre .1 .1)
 
 build-requires : tie.Need-build-requires
 build-requires c κs =
-    let z = c .before .before .before .before .before .before .before .before in (
+    let e = c .before .before .before .before .before in
+    let z = e .before .before .before .before in (
       omega arith,
-      narrow (c .before .before .before .before .before),
-      c .before .before .before .before .end-vector .ensures .1,
+      narrow (e .before),
+      e .end-vector .ensures .1,
       z .pre .1 .0,
       z .pre .1 .1,
     )
@@ -55,7 +58,7 @@ returns : tie.Need-returns
 returns c =
     let b = c .before .before .before .before in
     let t = b .before .before .before .before in
-    let e = t .before in
+    let e = t .before .before in
     λ φ r.
     b .build .ensures φ (t .tabulate .ensures φ r (width-is (e .before) φ r)) (width-is (e .before) φ r)
     (e .end-vector .ensures .0 φ r (width-is (e .before) φ r))

@@ -29,7 +29,7 @@ abbrev μ-loop : tie.MeasureT-loop
 abbrev start-of : tie.At-loop Inv-loop μ-loop → tie.Start Inv-loop μ-loop
 start-of c = c .before .before
 
-abbrev head : tie.After-place-of Inv-loop μ-loop → tie.In-loop Inv-loop μ-loop
+abbrev head : tie.After-find-state Inv-loop μ-loop → tie.In-loop Inv-loop μ-loop
 head c = c .before .before .before .before .before .before .before .before .before .before
 
 -- the state whose letters are looked at is in the list
@@ -45,9 +45,9 @@ twin c φ tab e state =
     let z = start-of (c .before .before .before) in
     twin-after φ _ _ _ _ state _ (z .args .twins .now) tab e (z .pre .2) (c .before .before .loop-test .taken) (c .wide .ensures)
 
-module _ (c : tie.After-place-of Inv-loop μ-loop) where
-  small : c .place-of .result ≤ head c .before .loop .n
-  small = c .place-of .ensures .within
+module _ (c : tie.After-find-state Inv-loop μ-loop) where
+  small : c .find-state .result ≤ head c .before .loop .n
+  small = c .find-state .ensures .within
 
   -- the state that was looked for is the one that the letter leads to
   next : (φ : Formula) → Tabulates φ (start-of (head c .before) .args .letters) (start-of (head c .before) .args .table .now)
@@ -101,8 +101,8 @@ slice-read-successor c = search needs
 successor-requires : tie.Need-successor-requires Inv-loop μ-loop
 successor-requires c κs = search needs
 
-slot-of-requires : tie.Need-slot-of-requires Inv-loop μ-loop
-slot-of-requires c κs = search needs
+state-slot-requires : tie.Need-state-slot-requires Inv-loop μ-loop
+state-slot-requires c κs = search needs
 
 element-copy-out-wide-2 : tie.Need-element-copy-out-wide-2 Inv-loop μ-loop
 element-copy-out-wide-2 c = search needs
@@ -110,8 +110,8 @@ element-copy-out-wide-2 c = search needs
 wide-requires-2 : tie.Need-wide-requires-2 Inv-loop μ-loop
 wide-requires-2 c κs = search needs
 
-place-of-requires : tie.Need-place-of-requires Inv-loop μ-loop
-place-of-requires c κs = search needs
+find-state-requires : tie.Need-find-state-requires Inv-loop μ-loop
+find-state-requires c κs = search needs
 
 add-result : tie.Need-add-result Inv-loop μ-loop
 add-result c = search needs
@@ -127,7 +127,7 @@ returns c =
     let b = small here in
     let n=limit : at .n ≡ stateLimit = omega (arith, at .inv .2) in (
       λ φ tab e done.
-          letter-over φ _ _ _ _ (at .list) (listed h) (h .loop-test .taken) (at .inv .4 φ tab e done) _ _ (next here φ tab e) (here .place-of .ensures)
+          letter-over φ _ _ _ _ (at .list) (listed h) (h .loop-test .taken) (at .inv .4 φ tab e done) _ _ (next here φ tab e) (here .find-state .ensures)
           (c .if2 .taken ∙ sym n=limit) n=limit,
       (omega (arith, at .inv .1, at .inv .2), omega arith),
     )
@@ -165,7 +165,7 @@ loop-again-2 c =
       omega arith,
       simp length-set (at .inv .3),
       λ φ tab e done.
-          letter-new φ _ _ _ _ (at .list) (listed h) (h .loop-test .taken) (at .inv .4 φ tab e done) _ _ (next here φ tab e) (here .place-of .ensures)
+          letter-new φ _ _ _ _ (at .list) (listed h) (h .loop-test .taken) (at .inv .4 φ tab e done) _ _ (next here φ tab e) (here .find-state .ensures)
           (c .if3 .taken) (omega (arith, start-of (h .before) .pre .5, at .inv .3)),
     )
 
@@ -182,7 +182,7 @@ loop-again-3 c =
       at .inv .2,
       at .inv .3,
       λ φ tab e done.
-          letter-old φ _ _ _ _ (at .list) (listed h) (h .loop-test .taken) (at .inv .4 φ tab e done) _ _ (next here φ tab e) (here .place-of .ensures)
+          letter-old φ _ _ _ _ (at .list) (listed h) (h .loop-test .taken) (at .inv .4 φ tab e done) _ _ (next here φ tab e) (here .find-state .ensures)
           (c .if3 .left),
     )
 
@@ -211,10 +211,10 @@ list-letters-spec =
     mul-successor
     slice-read-successor
     successor-requires
-    slot-of-requires
+    state-slot-requires
     element-copy-out-wide-2
     wide-requires-2
-    place-of-requires
+    find-state-requires
     add-result
     same-length
     returns

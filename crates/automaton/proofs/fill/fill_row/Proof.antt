@@ -1,5 +1,5 @@
--- `automaton::fill::fill_row` meets its contract. The invariant: after a letters the transitions up to there are those of the finished list,
--- and the transitions from there on are as they were. The measure is what is left of the letters.
+-- `automaton::fill::fill_row` meets its contract. The invariant: the first a letters of the row are written, and nothing beyond them.
+-- The measure is the number of letters that are left.
 -- Assumes nothing.
 use Prim.Native.Nat.{ℕ, suc, _+_, _-_, _*_, _^_, _≤_, _<_}
 use mathlib.Core.Path.{_≡_, refl, sym, subst}
@@ -31,7 +31,7 @@ abbrev μ-loop : tie.MeasureT-loop
 abbrev start-of : tie.At-loop Inv-loop μ-loop → tie.Start Inv-loop μ-loop
 start-of c = c .before .before .before
 
-abbrev head : tie.After-place-of Inv-loop μ-loop → tie.In-loop Inv-loop μ-loop
+abbrev head : tie.After-find-state Inv-loop μ-loop → tie.In-loop Inv-loop μ-loop
 head c = c .before .before .before .before .before .before .before .before .before
 
 -- ---- the numbers of a turn
@@ -120,8 +120,8 @@ shared-slice-read-successor c = search needs
 successor-requires : tie.Need-successor-requires Inv-loop μ-loop
 successor-requires c κs = search needs
 
-slot-of-requires : tie.Need-slot-of-requires Inv-loop μ-loop
-slot-of-requires c κs = search needs
+state-slot-requires : tie.Need-state-slot-requires Inv-loop μ-loop
+state-slot-requires c κs = search needs
 
 element-copy-out-wide-2 : tie.Need-element-copy-out-wide-2 Inv-loop μ-loop
 element-copy-out-wide-2 c = search needs
@@ -129,11 +129,11 @@ element-copy-out-wide-2 c = search needs
 wide-requires-2 : tie.Need-wide-requires-2 Inv-loop μ-loop
 wide-requires-2 c κs = search needs
 
-place-of-requires : tie.Need-place-of-requires Inv-loop μ-loop
-place-of-requires c κs = search needs
+find-state-requires : tie.Need-find-state-requires Inv-loop μ-loop
+find-state-requires c κs = search needs
 
 cast-transitions : tie.Need-cast-transitions Inv-loop μ-loop
-cast-transitions c = omega (arith, c .place-of .ensures .within, start-of (head c .before) .pre .4)
+cast-transitions c = omega (arith, c .find-state .ensures .within, start-of (head c .before) .pre .4)
 
 add-transitions-3 : tie.Need-add-transitions-3 Inv-loop μ-loop
 add-transitions-3 c = omega (arith, room (head c))
@@ -156,7 +156,7 @@ loop-again-2 c =
       kept-stored _ _ _ (z .args .transitions .now) (at .transitions) (at .inv .1) (omega arith),
       λ φ tab e all filled.
           letter-place φ _ _ _ _ (z .args .list .now) (at .transitions) (letter h) all (at .inv .2 φ tab e all filled) _ _
-          (c .before .before .before .before .successor .ensures φ (z .args .letters) tab (h .loop-test .taken) e) (c .place-of .ensures),
+          (c .before .before .before .before .successor .ensures φ (z .args .letters) tab (h .loop-test .taken) e) (c .find-state .ensures),
     )
 
 same-length : tie.Need-same-length Inv-loop μ-loop
@@ -192,10 +192,10 @@ fill-row-spec =
     mul-successor
     shared-slice-read-successor
     successor-requires
-    slot-of-requires
+    state-slot-requires
     element-copy-out-wide-2
     wide-requires-2
-    place-of-requires
+    find-state-requires
     cast-transitions
     add-transitions-3
     slice-write-transitions-2

@@ -1,5 +1,5 @@
--- `automaton::fill::fill_transitions` meets its contract. The invariant: the transitions of the first s states are those of the finished list, and
--- the transitions from there on are as they were. The measure is what is left of the states.
+-- `automaton::fill::fill_transitions` meets its contract. The invariant: the rows of the first s states are written, and nothing beyond them.
+-- The measure is the number of states that are left.
 -- Assumes nothing.
 use Prim.Native.Nat.{ℕ, suc, _-_, _*_, _^_, _≤_}
 use mathlib.Core.Path.{_≡_, refl, subst}

@@ -12,9 +12,6 @@ operator-nodes-requires c κs = search needs
 shl-entries : tie.Need-shl-entries
 shl-entries c = search needs
 
-slice-aggregate-fill-rows : tie.Need-slice-aggregate-fill-rows
-slice-aggregate-fill-rows c = search needs
-
 fill-rows-requires : tie.Need-fill-rows-requires
 fill-rows-requires c κs =
     let z = c .before .before .before in
@@ -22,8 +19,8 @@ fill-rows-requires c κs =
 
 returns : tie.Need-returns
 returns c =
-    let z = c .before .before .before .before .before in
-    λ φ rep w. c .before .fill-rows .ensures φ rep w (half-shifted (z .args .width) (operators φ) (z .pre .1) w)
+    let z = c .before .before .before .before in
+    λ φ rep w. c .fill-rows .ensures φ rep w (half-shifted (z .args .width) (operators φ) (z .pre .1) w)
 
 pub tabulate-spec : {M : Type 1} → statement M
 tabulate-spec =
@@ -31,6 +28,5 @@ tabulate-spec =
     (tie.spec
     operator-nodes-requires
     shl-entries
-    slice-aggregate-fill-rows
     fill-rows-requires
     returns)

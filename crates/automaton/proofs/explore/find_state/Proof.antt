@@ -1,4 +1,4 @@
--- `automaton::explore::place_of` meets its contract. The invariant: none of the states below i is x.
+-- `automaton::explore::find_state` meets its contract. The invariant: none of the states below i is x.
 -- The measure is what is left of n. Assumes nothing.
 use Prim.Native.Nat.{ℕ, _-_, _≤_, _<_}
 use mathlib.Core.Path.{_≡_}
@@ -7,8 +7,8 @@ use native.Mathlib.Omega.{arith}
 use lib.ListN.{getD}
 use borrow.Author.Count.{below-more}
 use borrow.Author.Needs.{needs}
-use Rattle.automaton.proofs.explore.place_of.Statement.{statement}
-use Rattle.automaton.proofs.explore.place_of.Tie as tie
+use Rattle.automaton.proofs.explore.find_state.Statement.{statement}
+use Rattle.automaton.proofs.explore.find_state.Tie as tie
 
 abbrev Inv-loop : tie.InvT-loop
 Inv-loop states n x guess i₀ i = (i ≤ n) × ((k : ℕ) → k < i → getD states k 0 ≡ x → ⊥)
@@ -55,8 +55,8 @@ returns-3 c =
     let at = c .before .loop in
     record { within = omega arith; here = λ l. absurd (let z : ⊥ = omega arith in z); nowhere = λ e k l. at .inv .1 k (omega arith) }
 
-pub place-of-spec : {M : Type 1} → statement M
-place-of-spec =
+pub find-state-spec : {M : Type 1} → statement M
+find-state-spec =
     tie.close
     (tie.spec
     Inv-loop

@@ -29,7 +29,7 @@ pub record EachHas (P : Refusal → Type 0) (i o : ℕ) (old : Buffers) (ρ κ :
   pub condition-nodes : P ConditionNodes
   pub count : stateLimit < n → P StateCount
   pub buffer : badAlphabet i o ≡ false → n ≤ stateLimit → shortBuffers i o n old ≡ true → P (Buffer n)
-  pub nothing : badAlphabet i o ≡ false → n ≤ stateLimit → P Nothing
+  pub nothing : badAlphabet i o ≡ false → n ≤ stateLimit → shortBuffers i o n old ≡ false → P Nothing
 
 module _ (P : Refusal → Type 0) (i o : ℕ) (rule condition : List ℕ) (old : Buffers) (n : ℕ) where
   -- the two texts
@@ -59,4 +59,4 @@ module _ (P : Refusal → Type 0) (i o : ℕ) (rule condition : List ℕ) (old :
       (λ t. rw t (e .count (ltb-true stateLimit n t)))
       (λ c. rw c (on (shortBuffers i o n old)
       (λ t. rw t (e .buffer a (ltb-false stateLimit n c) t))
-      (λ d. rw d (e .nothing a (ltb-false stateLimit n c)))))))))))
+      (λ d. rw d (e .nothing a (ltb-false stateLimit n c) d))))))))))

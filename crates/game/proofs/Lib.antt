@@ -28,4 +28,5 @@ pub mod RuleLaws
 pub mod RuleCheckLaws
 pub mod RuleCallLaws
 pub mod OneAnswer
+pub mod Lending
 pub mod EndlessAnswers

@@ -143,7 +143,7 @@ one-given i o x y = given-agrees i o x y
 -- ---- the rule call
 
 -- the rule's number of states is one, so the refusal is
-one-count : (i o : ℕ) (rule condition : List ℕ) (old : Buffers) (ρ κ : Reading) (n m : ℕ) → ReadingOf i (ruleKind i o) rule ρ
+pub one-count : (i o : ℕ) (rule condition : List ℕ) (old : Buffers) (ρ κ : Reading) (n m : ℕ) → ReadingOf i (ruleKind i o) rule ρ
     → CountOf i o rule n → CountOf i o rule m → ruleRefusal i o rule condition old ρ κ n ≡ ruleRefusal i o rule condition old ρ κ m
 unfolding ruleRefusal
 one-count i o rule condition old ρ κ n m r c d =

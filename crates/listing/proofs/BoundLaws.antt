@@ -77,7 +77,7 @@ module _ {mode : Mode} {i o : ℕ} {rule condition : List ℕ} {old new : Buffer
         condition-nodes = omega arith;
         count = λ _. omega arith;
         buffer = λ _ _ _. omega arith;
-        nothing = λ _ _. omega arith;
+        nothing = λ _ _ _. omega arith;
       })
 
   module _ (z : numberOf (m .refusal) ≡ 0) where

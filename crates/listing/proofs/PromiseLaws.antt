@@ -15,10 +15,10 @@ use borrow.Author.Tests.{eqb-true, eqb-false, le-ltb}
 use Rattle.plays.specs.declared.mode.Mode.{Mode}
 use Rattle.reader.specs.declared.reading.Reading.{Reading}
 use Rattle.reader.specs.declared.refusal.Refusal.{Refusal}
-use Rattle.reader.specs.declared.refusal.Refusal.the-variants.{Nothing, Alphabet, TextLength, Buffer, RuleText, RuleNodes, RuleOperators}
-use Rattle.reader.specs.declared.refusal.Refusal.the-variants.{ConditionText, ConditionNodes, StateCount, GivenCount, Move, State, Value}
+use Rattle.reader.specs.declared.refusal.Refusal.the-variants.{Nothing}
 use Rattle.reader.specs.Refusal.{numberOf, neededOf}
-use Rattle.reader.proofs.BoolLaws.{on, clash}
+use Rattle.reader.proofs.BoolLaws.{clash}
+use Rattle.reader.proofs.RefusalLaws.{something, refused-or-served}
 use Rattle.automaton.specs.Alphabet.{badAlphabet, letterCount}
 use Rattle.automaton.specs.Limits.{stateLimit, numberLimit, letterLimit}
 use Rattle.automaton.proofs.AlphabetLaws.{inputs-fit, outputs-fit}
@@ -36,23 +36,6 @@ use Rattle.listing.specs.inner.Writing.{written, Writes}
 use Rattle.listing.proofs.FillingLaws.{written-filled, position-least}
 use Rattle.listing.proofs.RequestLaws.{request-asks, asks-request}
 
--- only no refusal has the number 0
-pub no-number : (x : Refusal) → numberOf x ≡ 0 → x ≡ Nothing
-no-number Nothing e = refl
-no-number Alphabet e = absurd (omega arith)
-no-number TextLength e = absurd (omega arith)
-no-number (Buffer n) e = absurd (omega arith)
-no-number (RuleText k) e = absurd (omega arith)
-no-number RuleNodes e = absurd (omega arith)
-no-number RuleOperators e = absurd (omega arith)
-no-number (ConditionText k) e = absurd (omega arith)
-no-number ConditionNodes e = absurd (omega arith)
-no-number StateCount e = absurd (omega arith)
-no-number GivenCount e = absurd (omega arith)
-no-number (Move k) e = absurd (omega arith)
-no-number State e = absurd (omega arith)
-no-number (Value k) e = absurd (omega arith)
-
 -- a call that is served has passed the tests of i, o and n
 pub served-tests :
     (i o : ℕ) (rule condition : List ℕ) (old : Buffers) (ρ κ : Reading) (n : ℕ) → numberOf (ruleRefusal i o rule condition old ρ κ n) ≡ 0
@@ -69,7 +52,7 @@ served-tests i o rule condition old ρ κ n =
       condition-nodes = λ e. absurd (omega arith);
       count = λ _ e. absurd (omega arith);
       buffer = λ _ _ _ e. absurd (omega arith);
-      nothing = λ a l _. (a, l);
+      nothing = λ a l _ _. (a, l);
     }
 
 -- no refusal needs room for more states than the limit
@@ -86,7 +69,7 @@ needed-small i o rule condition old ρ κ n =
       condition-nodes = omega arith;
       count = λ _. omega arith;
       buffer = λ _ l _. l;
-      nothing = λ _ _. omega arith;
+      nothing = λ _ _ _. omega arith;
     }
 
 -- zeros of a size are not too few for a share that is no larger
@@ -120,7 +103,7 @@ never-short {mode} {i} {o} {rule} {condition} {new} {r} m e =
       condition-nodes = λ z. omega arith;
       count = λ _ z. omega arith;
       buffer = λ a l t _. clash (shortBuffers i o (m .states) lent) t (lent-enough i o (m .states) a l);
-      nothing = λ _ _ z. omega arith;
+      nothing = λ _ _ _ z. omega arith;
     }
     (ap numberOf (sym (m .first)) ∙ sym (m .number) ∙ e)
 
@@ -128,9 +111,7 @@ never-short {mode} {i} {o} {rule} {condition} {new} {r} m e =
 pub served-or-refused : {mode : Mode} {i o : ℕ} {rule condition : List ℕ} {old new : Buffers} {r : Answer} (m : RuleSolved mode i o rule condition old new r)
     → (m .refusal ≡ Nothing) ⊎ (r ≡ Refused (m .refusal))
 served-or-refused m =
-    on (eqb (numberOf (m .refusal)) 0)
-    (λ t. _⊎_.inl (no-number (m .refusal) (eqb-true (numberOf (m .refusal)) 0 t)))
-    (λ f. _⊎_.inr (m .refused (λ n. eqb-false (numberOf (m .refusal)) 0 f (ap numberOf n)) .0))
+    ⊎-elim _⊎_.inl (λ e. _⊎_.inr (m .refused (something (m .refusal) e) .0)) (refused-or-served (m .refusal))
 
 -- an answer has no more states than the limit
 pub solved-states : {mode : Mode} {i o : ℕ} {rule condition : List ℕ} {old new : Buffers} {r : Answer} → RuleSolved mode i o rule condition old new r

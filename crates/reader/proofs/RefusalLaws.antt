@@ -6,6 +6,7 @@ use mathlib.Core.Bool.{Bool, true, false}
 use mathlib.Core.List.{[], _∷_}
 use mathlib.Core.Logic.{_⊎_, ⊎-elim}
 use native.Mathlib.Omega.{arith}
+use lib.Dec.{eqb}
 use types.Run.{OneOf}
 use denote.Enum.Declared.{tagOf}
 use Rattle.reader.specs.declared.reading.Reading.{Reading}
@@ -38,6 +39,11 @@ refused-or-served GivenCount = _⊎_.inr refl
 refused-or-served (Move k) = _⊎_.inr refl
 refused-or-served State = _⊎_.inr refl
 refused-or-served (Value k) = _⊎_.inr refl
+
+-- only no refusal has the number 0
+pub no-number : (x : Refusal) → numberOf x ≡ 0 → x ≡ Nothing
+no-number x e =
+    ⊎-elim (λ z. z) (λ f. absurd (mathlib.Core.Bool.true≢false (ap (λ (k : ℕ). eqb k 0) (sym e) ∙ f))) (refused-or-served x)
 
 -- a refusal is something
 pub something : (x : Refusal) → isNothing x ≡ false → x ≡ Nothing → ⊥

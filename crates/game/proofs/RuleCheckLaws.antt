@@ -2,7 +2,7 @@
 -- Assumes nothing.
 use Prim.Native.Nat.{ℕ, _*_, _/_, _<_, min}
 use mathlib.Core.Path.{_≡_, refl, sym, ap, _∙_}
-use mathlib.Core.Bool.{Bool, true, false, cond, _||_}
+use mathlib.Core.Bool.{Bool, true, false, _||_}
 use mathlib.Core.List.{List}
 use mathlib.Core.Logic.{_⊎_, ⊎-elim}
 use native.Mathlib.Nat.{div-lt-iff-lt-mul}
@@ -12,7 +12,7 @@ use borrow.Author.Tests.{le-ltb, lt-ltb, ltb-true, ltb-false}
 use Rattle.reader.specs.declared.reading.Reading.{Reading}
 use Rattle.reader.specs.declared.reading.Reading.the-variants.{Good, TooLong, Bad, TooManyNodes, TooManyOperators}
 use Rattle.reader.specs.declared.refusal.Refusal.{Refusal}
-use Rattle.reader.specs.declared.refusal.Refusal.the-variants.{Nothing, Alphabet, TextLength, Buffer, StateCount}
+use Rattle.reader.specs.declared.refusal.Refusal.the-variants.{Nothing, Alphabet, TextLength, StateCount}
 use Rattle.reader.specs.Limits.{tooLong}
 use Rattle.reader.specs.Formula.{Formula}
 use Rattle.reader.specs.Marks.{ruleKind, conditionKind}
@@ -22,7 +22,6 @@ use Rattle.reader.proofs.BoolLaws.{on, or-true}
 use Rattle.reader.proofs.RefusalLaws.{differs, something, refused-or-served, NotGood, rule-refused, condition-refused}
 use Rattle.reader.proofs.Unambiguous.{some-reading}
 use Rattle.automaton.specs.declared.condition.Assumption.the-variants.{Mask, Refused}
-use Rattle.automaton.specs.Limits.{stateLimit}
 use Rattle.automaton.specs.Alphabet.{badAlphabet}
 use Rattle.automaton.specs.Condition.{Judges, maskOf, conditionRefusal, Conditioned}
 use Rattle.automaton.proofs.AlphabetLaws.{inputs-fit}

@@ -8,13 +8,12 @@ use mathlib.Core.Logic.{_⊎_, ⊎-elim}
 use mathlib.Core.List.{List, _++_}
 use native.Mathlib.Nat.{mul-le-mul}
 use native.Mathlib.Omega.{arith}
-use lib.Dec.{eqb, ltb}
+use lib.Dec.{ltb}
 use lib.ListN.{length, take, drop, replicate, length-replicate}
 use lib.Pow.{pow-mono}
-use borrow.Author.Tests.{eqb-true, eqb-false, le-ltb}
+use borrow.Author.Tests.{le-ltb}
 use Rattle.plays.specs.declared.mode.Mode.{Mode}
 use Rattle.reader.specs.declared.reading.Reading.{Reading}
-use Rattle.reader.specs.declared.refusal.Refusal.{Refusal}
 use Rattle.reader.specs.declared.refusal.Refusal.the-variants.{Nothing}
 use Rattle.reader.specs.Refusal.{numberOf, neededOf}
 use Rattle.reader.proofs.BoolLaws.{clash}

@@ -6,8 +6,8 @@ pub mod ValuationLaws
 pub mod Meaning
 pub mod PairLaws
 pub mod SuccessorLaws
-pub mod ExplorationLaws
-pub mod FillLaws
+pub mod ListingLaws
+pub mod FillingLaws
 pub mod TwinLaws
 pub mod BuildLaws
 pub mod FirstOverLaws

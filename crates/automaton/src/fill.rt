@@ -19,7 +19,7 @@ use crate::limits::SLOT_COUNT;
 use crate::limits::TABLE_SIZE;
 
 // Writes the transitions of state s: the twin's for a letter that has an earlier one, and else where the state after the letter stands.
-fn fill_row(
+fn fill_state(
     table: &[u8; TABLE_SIZE],
     twins: &[u8; LETTER_LIMIT],
     vectors: u64,
@@ -73,7 +73,7 @@ pub(crate) fn fill_transitions(
 {
     let mut s: usize = 0;
     while s < n {
-        fill_row(
+        fill_state(
             table,
             twins,
             vectors,

@@ -11,7 +11,7 @@ use Rattle.automaton.specs.Limits.{stateLimit}
 use Rattle.automaton.specs.State.{after}
 use Rattle.automaton.specs.inner.Representation.{Tabulates}
 use Rattle.automaton.specs.inner.Exploration.{Listed}
-use Rattle.automaton.proofs.ExplorationLaws.{letter-twin, letter-old, letter-new, letter-over, letters-done}
+use Rattle.automaton.proofs.ListingLaws.{letter-twin, letter-old, letter-new, letter-over, letters-done}
 use Rattle.automaton.proofs.TwinLaws.{twin-after}
 use Rattle.automaton.proofs.explore.list_letters.Statement.{statement}
 use Rattle.automaton.proofs.explore.list_letters.Tie as tie

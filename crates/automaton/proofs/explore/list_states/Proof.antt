@@ -11,7 +11,7 @@ use Rattle.automaton.specs.Limits.{stateLimit}
 use Rattle.automaton.specs.State.{start}
 use Rattle.automaton.specs.inner.Representation.{Tabulates}
 use Rattle.automaton.specs.inner.Exploration.{Listed, StateListed}
-use Rattle.automaton.proofs.ExplorationLaws.{listed-none, listed-all, next-state}
+use Rattle.automaton.proofs.ListingLaws.{listed-none, listed-all, next-state}
 use borrow.Author.Needs.{needs}
 use Rattle.automaton.proofs.explore.list_states.Statement.{statement}
 use Rattle.automaton.proofs.explore.list_states.Tie as tie

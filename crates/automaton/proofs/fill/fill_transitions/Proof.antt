@@ -9,7 +9,7 @@ use Rattle.reader.specs.Formula.{Formula, operators}
 use Rattle.automaton.specs.Buffer.{Kept}
 use Rattle.automaton.specs.inner.Representation.{Tabulates}
 use Rattle.automaton.specs.inner.Exploration.{AllListed, Filled}
-use Rattle.automaton.proofs.FillLaws.{kept-row, filled-none, filled-row}
+use Rattle.automaton.proofs.FillingLaws.{kept-row, filled-none, filled-row}
 use Rattle.automaton.proofs.fill.fill_transitions.Statement.{statement}
 use Rattle.automaton.proofs.fill.fill_transitions.Tie as tie
 
@@ -24,8 +24,8 @@ abbrev μ-loop : tie.MeasureT-loop
 loop-holds : tie.Need-loop-holds Inv-loop μ-loop
 loop-holds c = (omega arith, record { size = refl; beyond = λ u l. refl }, λ φ tab e all. filled-none φ _ _)
 
-fill-row-requires : tie.Need-fill-row-requires Inv-loop μ-loop
-fill-row-requires c κs =
+fill-state-requires : tie.Need-fill-state-requires Inv-loop μ-loop
+fill-state-requires c κs =
     let at = c .before .before in
     let z = at .before .before .before in
     (z .pre .0, z .pre .1, z .pre .2, c .before .loop-test .taken, z .pre .3, z .pre .4, omega (arith, z .pre .5, at .loop .inv .1 .size))
@@ -41,10 +41,10 @@ loop-again c =
     let x = c .before .before in
     let at = x .before .before .before in
     let z = at .before .before .before .args in
-    let new = x .fill-row .last .1 .1 .1 .1 .1 .1 .1 .1 .0 in (
+    let new = x .fill-state .last .1 .1 .1 .1 .1 .1 .1 .1 .0 in (
       omega (arith, x .before .before .loop-test .taken),
-      kept-row (z .letters) (at .loop .s) (z .transitions .now) (at .loop .transitions) new (at .loop .inv .1) (x .fill-row .ensures .1),
-      λ φ tab e all. filled-row φ (z .letters) (at .loop .s) new (x .fill-row .ensures .0 φ tab e all (at .loop .inv .2 φ tab e all)),
+      kept-row (z .letters) (at .loop .s) (z .transitions .now) (at .loop .transitions) new (at .loop .inv .1) (x .fill-state .ensures .1),
+      λ φ tab e all. filled-row φ (z .letters) (at .loop .s) new (x .fill-state .ensures .0 φ tab e all (at .loop .inv .2 φ tab e all)),
     )
 
 same-length : tie.Need-same-length Inv-loop μ-loop
@@ -66,7 +66,7 @@ fill-transitions-spec =
     Inv-loop
     μ-loop
     loop-holds
-    fill-row-requires
+    fill-state-requires
     add-s
     loop-less
     loop-again

@@ -10,7 +10,7 @@ use Rattle.automaton.specs.Bits.{bit, one}
 use Rattle.automaton.specs.Buffer.{Kept}
 use Rattle.automaton.proofs.BitLaws.{one-lt}
 use Rattle.automaton.proofs.ArrayLaws.{stored-more}
-use Rattle.automaton.proofs.FillLaws.{kept-stored}
+use Rattle.automaton.proofs.FillingLaws.{kept-stored}
 use Rattle.automaton.proofs.fill.mark_states.Statement.{statement}
 use Rattle.automaton.proofs.fill.mark_states.Tie as tie
 

@@ -1,4 +1,4 @@
--- `automaton::fill::fill_row` meets its contract. The invariant: the first a letters of the row are written, and nothing beyond them.
+-- `automaton::fill::fill_state` meets its contract. The invariant: the first a letters of the row are written, and nothing beyond them.
 -- The measure is the number of letters that are left.
 -- Assumes nothing.
 use Prim.Native.Nat.{ℕ, suc, _+_, _-_, _*_, _^_, _≤_, _<_}
@@ -13,10 +13,10 @@ use Rattle.automaton.specs.Buffer.{Kept}
 use Rattle.automaton.specs.State.{after}
 use Rattle.automaton.specs.inner.Representation.{Tabulates}
 use Rattle.automaton.specs.inner.Exploration.{AllListed, Filled}
-use Rattle.automaton.proofs.FillLaws.{Turn, turn-room, kept-stored, letter-twin, letter-place}
+use Rattle.automaton.proofs.FillingLaws.{Turn, turn-room, kept-stored, letter-twin, letter-place}
 use Rattle.automaton.proofs.TwinLaws.{twin-after}
-use Rattle.automaton.proofs.fill.fill_row.Statement.{statement}
-use Rattle.automaton.proofs.fill.fill_row.Tie as tie
+use Rattle.automaton.proofs.fill.fill_state.Statement.{statement}
+use Rattle.automaton.proofs.fill.fill_state.Tie as tie
 
 abbrev Inv-loop : tie.InvT-loop
 Inv-loop table twins vectors letters s n slots list transitions₀ row a₀ transitions a =
@@ -172,8 +172,8 @@ returns c =
       subst (λ (i : ℕ). Kept (z .s * z .letters + i) (z .transitions .now) (at .transitions)) done (at .inv .1),
     )
 
-pub fill-row-spec : {M : Type 1} → statement M
-fill-row-spec =
+pub fill-state-spec : {M : Type 1} → statement M
+fill-state-spec =
     tie.close
     (tie.spec
     Inv-loop

@@ -1,9 +1,11 @@
--- The refusal of a rule that comes first (specs/Rule.antt), by cases: a property of refusals holds of it where it holds of each one that may come.
+-- The refusal of a rule that comes first (specs/Rule.antt): one before the states are counted, whatever the buffers and the states, or one by their number. So a
+-- property of refusals holds of it where it holds of each one that may come.
 -- Assumes nothing.
 use Prim.Native.Nat.{ℕ, _≤_, _<_}
-use mathlib.Core.Path.{_≡_, refl}
+use mathlib.Core.Path.{_≡_, refl, sym, subst}
 use mathlib.Core.Bool.{true, false, _||_}
 use mathlib.Core.List.{List}
+use native.Mathlib.Omega.{arith}
 use lib.Dec.{ltb}
 use borrow.Author.Tests.{ltb-true, ltb-false}
 use Rattle.reader.specs.declared.reading.Reading.{Reading}
@@ -12,51 +14,105 @@ use Rattle.reader.specs.declared.refusal.Refusal.{Refusal}
 use Rattle.reader.specs.declared.refusal.Refusal.the-variants.{Nothing, Alphabet, TextLength, Buffer, RuleText, RuleNodes, RuleOperators}
 use Rattle.reader.specs.declared.refusal.Refusal.the-variants.{ConditionText, ConditionNodes, StateCount}
 use Rattle.reader.specs.Limits.{tooLong}
-use Rattle.reader.specs.Refusal.{afterRule, afterCondition}
+use Rattle.reader.specs.Refusal.{numberOf, neededOf}
 use Rattle.reader.proofs.BoolLaws.{on}
 use Rattle.automaton.specs.Limits.{stateLimit}
 use Rattle.automaton.specs.Alphabet.{badAlphabet}
-use Rattle.game.specs.Rule.{Buffers, shortBuffers, ruleRefusal}
+use Rattle.game.specs.Rule.{Buffers, shortBuffers, sizeRefusal, ruleRefusal}
+
+-- ---- the refusals before the states are counted, for texts with the readings ρ and κ
+pub data Early (ρ κ : Reading) : Refusal → Type 0 where
+  alphabet : Early ρ κ Alphabet
+  text-length : Early ρ κ TextLength
+  rule-text : (k : ℕ) → ρ ≡ Bad k → Early ρ κ (RuleText k)
+  rule-nodes : Early ρ κ RuleNodes
+  rule-operators : Early ρ κ RuleOperators
+  condition-text : (k : ℕ) → κ ≡ Bad k → Early ρ κ (ConditionText k)
+  condition-nodes : Early ρ κ ConditionNodes
+
+-- none of them is 3, or no refusal
+pub early-number : {ρ κ : Reading} {x : Refusal} → Early ρ κ x → (numberOf x ≡ 0 → ⊥) × (numberOf x ≡ 3 → ⊥)
+early-number alphabet = (λ e. omega arith, λ e. omega arith)
+early-number text-length = (λ e. omega arith, λ e. omega arith)
+early-number (rule-text k e) = (λ e. omega arith, λ e. omega arith)
+early-number rule-nodes = (λ e. omega arith, λ e. omega arith)
+early-number rule-operators = (λ e. omega arith, λ e. omega arith)
+early-number (condition-text k e) = (λ e. omega arith, λ e. omega arith)
+early-number condition-nodes = (λ e. omega arith, λ e. omega arith)
+
+-- none of them tells a number of states
+pub early-needed : {ρ κ : Reading} {x : Refusal} → Early ρ κ x → neededOf x ≡ 0
+early-needed alphabet = refl
+early-needed text-length = refl
+early-needed (rule-text k e) = refl
+early-needed rule-nodes = refl
+early-needed rule-operators = refl
+early-needed (condition-text k e) = refl
+early-needed condition-nodes = refl
+
+-- ---- which one comes first: one of these, or the one by the number of states
+pub data First (i o : ℕ) (rule condition : List ℕ) (ρ κ : Reading) : Type 0 where
+  early : (x : Refusal) → Early ρ κ x → ((old : Buffers) (n : ℕ) → ruleRefusal i o rule condition old ρ κ n ≡ x) → First i o rule condition ρ κ
+  by-size : badAlphabet i o ≡ false → ((old : Buffers) (n : ℕ) → ruleRefusal i o rule condition old ρ κ n ≡ sizeRefusal i o old n)
+      → First i o rule condition ρ κ
+
+module _ (i o : ℕ) (rule condition : List ℕ) where
+  module _ (a : badAlphabet i o ≡ false) (b : (tooLong rule || tooLong condition) ≡ false) where
+    by-readings : (ρ κ : Reading) → First i o rule condition ρ κ
+    unfolding ruleRefusal
+    by-readings (Good l) (Good m) = by-size a (λ old n. rw (a, b))
+    by-readings (Good l) TooLong = early TextLength text-length (λ old n. rw (a, b))
+    by-readings (Good l) (Bad k) = early (ConditionText k) (condition-text k refl) (λ old n. rw (a, b))
+    by-readings (Good l) TooManyNodes = early ConditionNodes condition-nodes (λ old n. rw (a, b))
+    by-readings (Good l) TooManyOperators = early ConditionNodes condition-nodes (λ old n. rw (a, b))
+    by-readings TooLong κ = early TextLength text-length (λ old n. rw (a, b))
+    by-readings (Bad k) κ = early (RuleText k) (rule-text k refl) (λ old n. rw (a, b))
+    by-readings TooManyNodes κ = early RuleNodes rule-nodes (λ old n. rw (a, b))
+    by-readings TooManyOperators κ = early RuleOperators rule-operators (λ old n. rw (a, b))
+
+  pub comes-first : (ρ κ : Reading) → First i o rule condition ρ κ
+  unfolding ruleRefusal
+  comes-first ρ κ =
+      on (badAlphabet i o)
+      (λ t. early Alphabet alphabet (λ old n. rw t))
+      (λ a. on (tooLong rule || tooLong condition)
+      (λ t. early TextLength text-length (λ old n. rw (a, t)))
+      (λ b. by-readings a b ρ κ))
+
+-- ---- a property of the one that comes first
 
 -- each refusal that may come has the property, told what was tested before it
 pub record EachHas (P : Refusal → Type 0) (i o : ℕ) (old : Buffers) (ρ κ : Reading) (n : ℕ) : Type 0 where
-  pub alphabet : P Alphabet
-  pub text-length : P TextLength
-  pub rule-text : (k : ℕ) → ρ ≡ Bad k → P (RuleText k)
-  pub rule-nodes : P RuleNodes
-  pub rule-operators : P RuleOperators
-  pub condition-text : (k : ℕ) → κ ≡ Bad k → P (ConditionText k)
-  pub condition-nodes : P ConditionNodes
+  pub before : (x : Refusal) → Early ρ κ x → P x
   pub count : stateLimit < n → P StateCount
   pub buffer : badAlphabet i o ≡ false → n ≤ stateLimit → shortBuffers i o n old ≡ true → P (Buffer n)
   pub nothing : badAlphabet i o ≡ false → n ≤ stateLimit → shortBuffers i o n old ≡ false → P Nothing
 
-module _ (P : Refusal → Type 0) (i o : ℕ) (rule condition : List ℕ) (old : Buffers) (n : ℕ) where
-  -- the two texts
-  after-rule : (ρ κ : Reading) (later : Refusal) → EachHas P i o old ρ κ n → P later → P (afterRule ρ later)
-  after-rule (Good m) κ later e p = p
-  after-rule TooLong κ later e p = e .text-length
-  after-rule (Bad k) κ later e p = e .rule-text k refl
-  after-rule TooManyNodes κ later e p = e .rule-nodes
-  after-rule TooManyOperators κ later e p = e .rule-operators
-
-  after-condition : (ρ κ : Reading) (later : Refusal) → EachHas P i o old ρ κ n → P later → P (afterCondition κ later)
-  after-condition ρ (Good m) later e p = p
-  after-condition ρ TooLong later e p = e .text-length
-  after-condition ρ (Bad k) later e p = e .condition-text k refl
-  after-condition ρ TooManyNodes later e p = e .condition-nodes
-  after-condition ρ TooManyOperators later e p = e .condition-nodes
-
-  -- so has the one that comes first
-  pub first-has : (ρ κ : Reading) → EachHas P i o old ρ κ n → P (ruleRefusal i o rule condition old ρ κ n)
-  unfolding ruleRefusal
-  first-has ρ κ e =
-      on (badAlphabet i o)
-      (λ t. rw t (e .alphabet))
-      (λ a. rw a (on (tooLong rule || tooLong condition)
-      (λ t. rw t (e .text-length))
-      (λ b. rw b (after-rule ρ κ _ e (after-condition ρ κ _ e (on (ltb stateLimit n)
+module _ (P : Refusal → Type 0) (i o : ℕ) (rule condition : List ℕ) (old : Buffers) (n : ℕ) (ρ κ : Reading) (e : EachHas P i o old ρ κ n) where
+  size-has : badAlphabet i o ≡ false → P (sizeRefusal i o old n)
+  size-has a =
+      on (ltb stateLimit n)
       (λ t. rw t (e .count (ltb-true stateLimit n t)))
       (λ c. rw c (on (shortBuffers i o n old)
       (λ t. rw t (e .buffer a (ltb-false stateLimit n c) t))
-      (λ d. rw d (e .nothing a (ltb-false stateLimit n c) d))))))))))
+      (λ d. rw d (e .nothing a (ltb-false stateLimit n c) d))))
+
+  -- so has the one that comes first
+  pub first-has : P (ruleRefusal i o rule condition old ρ κ n)
+  first-has = go (comes-first i o rule condition ρ κ)
+    where
+      go : First i o rule condition ρ κ → P (ruleRefusal i o rule condition old ρ κ n)
+      go (early x h same) = subst P (sym (same old n)) (e .before x h)
+      go (by-size a same) = subst P (sym (same old n)) (size-has a)
+
+-- the call is served: i, o and n are in range, and every buffer has room
+pub first-served : (i o : ℕ) (rule condition : List ℕ) (old : Buffers) (ρ κ : Reading) (n : ℕ) → numberOf (ruleRefusal i o rule condition old ρ κ n) ≡ 0
+    → (badAlphabet i o ≡ false) × (n ≤ stateLimit) × (shortBuffers i o n old ≡ false)
+first-served i o rule condition old ρ κ n =
+    first-has (λ x. numberOf x ≡ 0 → (badAlphabet i o ≡ false) × (n ≤ stateLimit) × (shortBuffers i o n old ≡ false)) i o rule condition old n ρ κ
+    record {
+      before = λ x h e. absurd (early-number h .0 e);
+      count = λ _ e. absurd (omega arith);
+      buffer = λ _ _ _ e. absurd (omega arith);
+      nothing = λ a l s _. (a, l, s);
+    }

@@ -3,60 +3,28 @@
 -- Assumes nothing.
 use Prim.Native.Nat.{ℕ, _<_}
 use mathlib.Core.Path.{_≡_, refl, sym, ap, ap₂, _∙_, subst}
-use mathlib.Core.Bool.{Bool, true, false, cond, _||_}
+use mathlib.Core.Bool.{Bool, true, false, cond}
 use mathlib.Core.List.{List, []}
 use mathlib.Core.Logic.{⊎-elim}
 use native.Mathlib.Omega.{arith}
 use lib.Dec.{ltb}
 use borrow.Author.Tests.{lt-ltb}
 use Rattle.reader.specs.declared.reading.Reading.{Reading}
-use Rattle.reader.specs.declared.reading.Reading.the-variants.{Good, TooLong, Bad, TooManyNodes, TooManyOperators}
 use Rattle.reader.specs.declared.refusal.Refusal.{Refusal}
-use Rattle.reader.specs.declared.refusal.Refusal.the-variants.{Nothing, Alphabet, TextLength, Buffer, RuleText, RuleNodes, RuleOperators}
-use Rattle.reader.specs.declared.refusal.Refusal.the-variants.{ConditionText, ConditionNodes, StateCount}
-use Rattle.reader.specs.Limits.{tooLong}
+use Rattle.reader.specs.declared.refusal.Refusal.the-variants.{Nothing, Buffer, StateCount}
 use Rattle.reader.specs.Refusal.{numberOf, isNothing}
-use Rattle.reader.proofs.BoolLaws.{on, clash, or-true}
+use Rattle.reader.proofs.BoolLaws.{clash, or-true}
 use Rattle.reader.proofs.RefusalLaws.{differs, something, refused-or-served, no-number}
 use Rattle.reader.proofs.Unambiguous.{one-reading}
 use Rattle.automaton.specs.Limits.{stateLimit}
-use Rattle.automaton.specs.Alphabet.{badAlphabet}
 use Rattle.game.specs.declared.answer.Answer.{Answer}
 use Rattle.game.specs.declared.answer.Answer.the-variants.{Refused}
 use Rattle.game.specs.Answer.{answerNumber, verdictOf}
 use Rattle.plays.specs.declared.mode.Mode.{Mode}
-use Rattle.game.specs.Rule.{Buffers, buffers, shortBuffers, sizeRefusal, ruleRefusal, RuleSolved}
-use Rattle.game.proofs.FirstRefusal.{first-has}
+use Rattle.game.specs.Rule.{Buffers, buffers, shortBuffers, ruleRefusal, RuleSolved}
+use Rattle.game.proofs.FirstRefusal.{early-number, First, early, by-size, comes-first, first-served}
 use Rattle.game.proofs.RuleLaws.{some-state}
 use Rattle.game.proofs.OneAnswer.{one-count}
-
--- ---- the tests before the states are counted: they let the others come, or they refuse, never by 3, whatever the buffers and the states
-data Texts (i o : ℕ) (rule condition : List ℕ) (ρ κ : Reading) : Type 0 where
-  passed : ((old : Buffers) (n : ℕ) → ruleRefusal i o rule condition old ρ κ n ≡ sizeRefusal i o old n) → Texts i o rule condition ρ κ
-  stopped : (x : Refusal) → (numberOf x ≡ 3 → ⊥) → ((old : Buffers) (n : ℕ) → ruleRefusal i o rule condition old ρ κ n ≡ x) → Texts i o rule condition ρ κ
-
-module _ (i o : ℕ) (rule condition : List ℕ) where
-  module _ (a : badAlphabet i o ≡ false) (b : (tooLong rule || tooLong condition) ≡ false) where
-    by-readings : (ρ κ : Reading) → Texts i o rule condition ρ κ
-    unfolding ruleRefusal
-    by-readings (Good l) (Good m) = passed (λ old n. rw (a, b))
-    by-readings (Good l) TooLong = stopped TextLength (λ e. omega arith) (λ old n. rw (a, b))
-    by-readings (Good l) (Bad k) = stopped (ConditionText k) (λ e. omega arith) (λ old n. rw (a, b))
-    by-readings (Good l) TooManyNodes = stopped ConditionNodes (λ e. omega arith) (λ old n. rw (a, b))
-    by-readings (Good l) TooManyOperators = stopped ConditionNodes (λ e. omega arith) (λ old n. rw (a, b))
-    by-readings TooLong κ = stopped TextLength (λ e. omega arith) (λ old n. rw (a, b))
-    by-readings (Bad k) κ = stopped (RuleText k) (λ e. omega arith) (λ old n. rw (a, b))
-    by-readings TooManyNodes κ = stopped RuleNodes (λ e. omega arith) (λ old n. rw (a, b))
-    by-readings TooManyOperators κ = stopped RuleOperators (λ e. omega arith) (λ old n. rw (a, b))
-
-  by-texts : (ρ κ : Reading) → Texts i o rule condition ρ κ
-  unfolding ruleRefusal
-  by-texts ρ κ =
-      on (badAlphabet i o)
-      (λ t. stopped Alphabet (λ e. omega arith) (λ old n. rw t))
-      (λ a. on (tooLong rule || tooLong condition)
-      (λ t. stopped TextLength (λ e. omega arith) (λ old n. rw (a, t)))
-      (λ b. by-readings a b ρ κ))
 
 -- a refusal by 3 told the number of states, which is within the limit
 size-told : (b c : Bool) (s n : ℕ) → Buffer n ≡ cond b StateCount (cond c (Buffer s) Nothing) → (b ≡ false) × (n ≡ s)
@@ -89,11 +57,11 @@ module _ {mode mode′ : Mode} {i o : ℕ} {rule condition : List ℕ} {old old�
 
   -- the first call told the rule's number of states, and the second is not refused
   second-served : (n ≡ x .states) × (y .refusal ≡ Nothing)
-  second-served = go (by-texts i o rule condition (x .reading) (x .condition-reading))
+  second-served = go (comes-first i o rule condition (x .reading) (x .condition-reading))
     where
-      go : Texts i o rule condition (x .reading) (x .condition-reading) → (n ≡ x .states) × (y .refusal ≡ Nothing)
-      go (stopped z not-short same) = absurd (not-short (ap numberOf (sym (first-told ∙ same old (x .states)))))
-      go (passed same) =
+      go : First i o rule condition (x .reading) (x .condition-reading) → (n ≡ x .states) × (y .refusal ≡ Nothing)
+      go (early z h same) = absurd (early-number h .1 (ap numberOf (sym (first-told ∙ same old (x .states)))))
+      go (by-size a same) =
           let t = size-told (ltb stateLimit (x .states)) (shortBuffers i o (x .states) old) (x .states) n (first-told ∙ same old (x .states)) in
           let long : shortBuffers i o (x .states) old′ ≡ false = subst (λ (k : ℕ). shortBuffers i o k old′ ≡ false) (t .1) room in
           (t .1, second-first ∙ same old′ (x .states) ∙ rw (t .0, long))
@@ -113,17 +81,5 @@ nothing-lent {mode} {i} {o} {rule} {condition} {new} {r} m e =
     let z : m .refusal ≡ Nothing = no-number (m .refusal) (sym (m .number) ∙ e) in
     let some : 0 < m .states = some-state (m .served z .2 .automaton) in
     let short : shortBuffers i o (m .states) (buffers [] [] [] []) ≡ true = rw (lt-ltb 0 (m .states) some, or-true) in
-    first-has (λ x. numberOf x ≡ 0 → ⊥) i o rule condition (buffers [] [] [] []) (m .states) (m .reading) (m .condition-reading)
-    record {
-      alphabet = λ q. omega arith;
-      text-length = λ q. omega arith;
-      rule-text = λ k _ q. omega arith;
-      rule-nodes = λ q. omega arith;
-      rule-operators = λ q. omega arith;
-      condition-text = λ k _ q. omega arith;
-      condition-nodes = λ q. omega arith;
-      count = λ _ q. omega arith;
-      buffer = λ _ _ _ q. omega arith;
-      nothing = λ _ _ long _. clash (shortBuffers i o (m .states) (buffers [] [] [] [])) short long;
-    }
-    (ap numberOf (sym (m .first) ∙ z))
+    let long = first-served i o rule condition (buffers [] [] [] []) (m .reading) (m .condition-reading) (m .states) (ap numberOf (sym (m .first) ∙ z)) in
+    clash (shortBuffers i o (m .states) (buffers [] [] [] [])) short (long .2)

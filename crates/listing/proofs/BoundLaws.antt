@@ -3,7 +3,7 @@
 use Prim.Native.Nat.{ℕ, zero, suc, _^_, _≤_, _<_}
 use mathlib.Core.Path.{_≡_, sym, ap, subst, _∙_}
 use mathlib.Core.Bool.{false}
-use mathlib.Core.Logic.{_⊎_, ⊎-elim}
+use mathlib.Core.Logic.{⊎-elim}
 use mathlib.Core.List.{List}
 use native.Mathlib.Nat.{min-eq-left}
 use native.Mathlib.Omega.{arith}
@@ -30,14 +30,15 @@ use Rattle.plays.specs.Arena.{arena}
 use Rattle.plays.proofs.RoundLaws.{round-bound}
 use Rattle.game.specs.declared.answer.Answer.{Answer}
 use Rattle.game.specs.Answer.{verdictOf}
-use Rattle.game.specs.Rule.{Buffers, RuleServed, RuleSolved}
+use Rattle.game.specs.Rule.{Buffers, shortBuffers, RuleServed, RuleSolved}
 use Rattle.game.proofs.AnswerLaws.{verdict-can}
-use Rattle.game.proofs.FirstRefusal.{first-has}
+use Rattle.game.proofs.FirstRefusal.{Early, first-has, first-served}
+use Rattle.game.proofs.FirstRefusal.{alphabet, text-length, rule-text, rule-nodes, rule-operators, condition-text, condition-nodes}
 use Rattle.game.proofs.RuleLaws.{some-state}
 use Rattle.listing.specs.Listing.{listing, stateLine, canWord, cannotWord}
 use Rattle.listing.specs.Promise.{outputSize, Prints, Listed}
 use Rattle.listing.proofs.LengthLaws.{system-length, environment-length, line-length, verdict-length, refusal-length}
-use Rattle.listing.proofs.PromiseLaws.{served-tests, served-or-refused}
+use Rattle.listing.proofs.PromiseLaws.{served-or-refused}
 
 number-small : (x : Refusal) → numberOf x ≤ 14
 number-small Nothing = omega arith
@@ -63,26 +64,24 @@ place-within i kind text ρ h k e =
     omega (arith, p .0, p .1 .within)
 
 module _ {mode : Mode} {i o : ℕ} {rule condition : List ℕ} {old new : Buffers} {r : Answer} (m : RuleSolved mode i o rule condition old new r) where
+  early-place : (x : Refusal) → Early (m .reading) (m .condition-reading) x → placeOf x ≤ textLimit
+  early-place x alphabet = omega arith
+  early-place x text-length = omega arith
+  early-place x (rule-text k e) = place-within i _ rule (m .reading) (m .read) k e
+  early-place x rule-nodes = omega arith
+  early-place x rule-operators = omega arith
+  early-place x (condition-text k e) = place-within i _ condition (m .condition-reading) (m .condition-read) k e
+  early-place x condition-nodes = omega arith
+
   refusal-place : placeOf (m .refusal) ≤ textLimit
   refusal-place =
       subst (λ (x : Refusal). placeOf x ≤ textLimit) (sym (m .first))
       (first-has (λ x. placeOf x ≤ textLimit) i o rule condition old (m .states) (m .reading) (m .condition-reading)
-      record {
-        alphabet = omega arith;
-        text-length = omega arith;
-        rule-text = place-within i _ rule (m .reading) (m .read);
-        rule-nodes = omega arith;
-        rule-operators = omega arith;
-        condition-text = place-within i _ condition (m .condition-reading) (m .condition-read);
-        condition-nodes = omega arith;
-        count = λ _. omega arith;
-        buffer = λ _ _ _. omega arith;
-        nothing = λ _ _ _. omega arith;
-      })
+      record { before = early-place; count = λ _. omega arith; buffer = λ _ _ _. omega arith; nothing = λ _ _ _. omega arith })
 
   module _ (z : numberOf (m .refusal) ≡ 0) where
-    passed : (badAlphabet i o ≡ false) × (m .states ≤ stateLimit)
-    passed = served-tests i o rule condition old (m .reading) (m .condition-reading) (m .states) (ap numberOf (sym (m .first)) ∙ z)
+    passed : (badAlphabet i o ≡ false) × (m .states ≤ stateLimit) × (shortBuffers i o (m .states) old ≡ false)
+    passed = first-served i o rule condition old (m .reading) (m .condition-reading) (m .states) (ap numberOf (sym (m .first)) ∙ z)
 
     few-inputs : 2 ^ i ≤ numberLimit
     few-inputs = pow-mono {j = 4} (ltb-false 4 i (or-left (ltb 4 i) (ltb 4 o) (passed .0)))

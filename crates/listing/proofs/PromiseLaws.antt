@@ -26,7 +26,7 @@ use Rattle.game.specs.declared.answer.Answer.the-variants.{Can, Cannot, Refused
 use Rattle.game.specs.Answer.{answerNumber, answerStates}
 use Rattle.game.specs.Rule.{Buffers, buffers, shortBuffers, ruleRefusal, RuleSolved}
 use Rattle.game.proofs.AnswerLaws.{verdict-states}
-use Rattle.game.proofs.FirstRefusal.{first-has}
+use Rattle.game.proofs.FirstRefusal.{early-number, early-needed, first-has, first-served}
 use Rattle.listing.specs.Listing.{listing, malformed}
 use Rattle.listing.specs.Promise.{lent, Listed}
 use Rattle.listing.specs.inner.Rendering.{listingOf}
@@ -35,37 +35,12 @@ use Rattle.listing.specs.inner.Writing.{written, Writes}
 use Rattle.listing.proofs.FillingLaws.{written-filled, position-least}
 use Rattle.listing.proofs.RequestLaws.{request-asks, asks-request}
 
--- a call that is served has passed the tests of i, o and n
-pub served-tests :
-    (i o : ℕ) (rule condition : List ℕ) (old : Buffers) (ρ κ : Reading) (n : ℕ) → numberOf (ruleRefusal i o rule condition old ρ κ n) ≡ 0
-    → (badAlphabet i o ≡ false) × (n ≤ stateLimit)
-served-tests i o rule condition old ρ κ n =
-    first-has (λ x. numberOf x ≡ 0 → (badAlphabet i o ≡ false) × (n ≤ stateLimit)) i o rule condition old n ρ κ
-    record {
-      alphabet = λ e. absurd (omega arith);
-      text-length = λ e. absurd (omega arith);
-      rule-text = λ k _ e. absurd (omega arith);
-      rule-nodes = λ e. absurd (omega arith);
-      rule-operators = λ e. absurd (omega arith);
-      condition-text = λ k _ e. absurd (omega arith);
-      condition-nodes = λ e. absurd (omega arith);
-      count = λ _ e. absurd (omega arith);
-      buffer = λ _ _ _ e. absurd (omega arith);
-      nothing = λ a l _ _. (a, l);
-    }
-
 -- no refusal needs room for more states than the limit
 needed-small : (i o : ℕ) (rule condition : List ℕ) (old : Buffers) (ρ κ : Reading) (n : ℕ) → neededOf (ruleRefusal i o rule condition old ρ κ n) ≤ stateLimit
 needed-small i o rule condition old ρ κ n =
     first-has (λ x. neededOf x ≤ stateLimit) i o rule condition old n ρ κ
     record {
-      alphabet = omega arith;
-      text-length = omega arith;
-      rule-text = λ k _. omega arith;
-      rule-nodes = omega arith;
-      rule-operators = omega arith;
-      condition-text = λ k _. omega arith;
-      condition-nodes = omega arith;
+      before = λ x h. rw (early-needed h) (omega arith);
       count = λ _. omega arith;
       buffer = λ _ l _. l;
       nothing = λ _ _ _. omega arith;
@@ -93,13 +68,7 @@ pub never-short : {mode : Mode} {i o : ℕ} {rule condition : List ℕ} {new : B
 never-short {mode} {i} {o} {rule} {condition} {new} {r} m e =
     first-has (λ x. numberOf x ≡ 3 → ⊥) i o rule condition lent (m .states) (m .reading) (m .condition-reading)
     record {
-      alphabet = λ z. omega arith;
-      text-length = λ z. omega arith;
-      rule-text = λ k _ z. omega arith;
-      rule-nodes = λ z. omega arith;
-      rule-operators = λ z. omega arith;
-      condition-text = λ k _ z. omega arith;
-      condition-nodes = λ z. omega arith;
+      before = λ x h. early-number h .1;
       count = λ _ z. omega arith;
       buffer = λ a l t _. clash (shortBuffers i o (m .states) lent) t (lent-enough i o (m .states) a l);
       nothing = λ _ _ _ z. omega arith;
@@ -120,7 +89,7 @@ solved-states {mode} {i} {o} {rule} {condition} {old} {new} {r} m =
     (λ z.
     let v = m .served z in
     let e : answerStates r ≡ m .states = ap answerStates (v .1) ∙ verdict-states (m .states) (v .0) in
-    let h = served-tests i o rule condition old (m .reading) (m .condition-reading) (m .states) (ap numberOf (sym (m .first) ∙ z)) in
+    let h = first-served i o rule condition old (m .reading) (m .condition-reading) (m .states) (ap numberOf (sym (m .first) ∙ z)) in
     subst (λ (k : ℕ). k ≤ stateLimit) (sym e) (h .1))
     (λ e.
     subst (λ (k : ℕ). k ≤ stateLimit) (sym (ap answerStates e ∙ ap neededOf (m .first)))

@@ -34,7 +34,7 @@
  *
  *      1  i or o is above 4
  *      2  the rule or the condition has more than 255 bytes
- *      3  a buffer is too short for n states; after a rule, n tells how many these are
+ *      3  a buffer is too short for n states; the rule call then writes this number to n
  *      4  the rule's text is bad; place: the number of bytes that are still a good beginning
  *      5  the rule has more than 64 names, constants and operators together
  *      6  the rule has more than 5 temporal operators (X N F G U R)
@@ -144,7 +144,7 @@ uint8_t airtable_solve_rule(size_t i, size_t o, uint8_t mode,
  * Give at least n * 2^(i+o) bytes of moves and n of marks (any mark but 0 is a goal), laid out as above; they are only
  * read. Lend at least n * 2^i bytes for station and n for outside; can, round and the two tables are written as above,
  * with `start` for state 0 and "enters a goal" for "satisfies the rule". Bit x of mask says whether input number x has
- * the condition. The start's own mark counts for nothing until a step enters it.
+ * the condition. A mark on the start has no effect before a step leads back to it.
  */
 uint8_t airtable_solve_given(size_t i, size_t o, uint8_t mode, size_t n,
     const uint8_t *moves, size_t moves_length, const uint8_t *marks, size_t marks_length,

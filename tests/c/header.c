@@ -95,8 +95,7 @@ static void served_rule(void)
     CHECK(marks[3], 1);
     CHECK(AIRTABLE_MARKS_SIZE(1, 2, 4), 4);
     CHECK_BYTES(marks, 4, ROOM, OLD_MARKS);
-    CHECK(memcmp(station, "\1\2\377\377\1\2", 6), 0);
-    CHECK(station[6] < 4 && station[7] < 4, 1);
+    CHECK(memcmp(station, "\1\2\377\377\1\2\0\0", 8), 0);
     CHECK(AIRTABLE_STATION_SIZE(1, 2, 4), 8);
     CHECK_BYTES(station, 8, ROOM, OLD_STATION);
     CHECK(memcmp(outside, "\377\1\377\377", 4), 0);
@@ -263,8 +262,7 @@ static void served_given(void)
     CHECK_BYTES(station, 0, 8, 255);
     CHECK(memcmp(station + 8, "\0\1\0\0", 4), 0);
     CHECK_BYTES(station, 12, ROOM, OLD_STATION);
-    CHECK((outside[0] == 1 || outside[0] == 2) && (outside[1] == 1 || outside[1] == 2), 1);
-    CHECK(outside[2], 255);
+    CHECK(memcmp(outside, "\1\1\377", 3), 0);
     CHECK_BYTES(outside, 3, ROOM, OLD_OUTSIDE);
     CHECK(solve_given(GIVEN_STATES, 1, GIVEN_MASK), AIRTABLE_SERVED);
     CHECK(can, 0);

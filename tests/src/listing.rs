@@ -52,12 +52,13 @@ fn refused(refusal: Refusal) -> Vec<u8> {
     format!("refused {} {}\n", refusal.number, refusal.place.unwrap_or(0)).into_bytes()
 }
 
-/// Buffers long enough for every rule (none where i or o is out of range).
+/// Buffers long enough for every rule (none where i or o is out of range), filled with a byte that is neither a state, a
+/// mark nor an entry of a table.
 pub fn buffers(i: usize, o: usize) -> Buffers {
     if i > 4 || o > 4 {
         return Buffers::default();
     }
-    Buffers::filled(shares(i, o, STATES), 0)
+    Buffers::filled(shares(i, o, STATES), 0xa5)
 }
 
 /// The line of one state.

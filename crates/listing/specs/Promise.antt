@@ -14,7 +14,7 @@ use Rattle.game.specs.Rule.{Buffers, buffers, RuleSolved}
 use Rattle.listing.specs.Input.{inputLimit, Asks}
 use Rattle.listing.specs.Listing.{listing, malformed}
 
--- the buffers that are lent: zeros, of the size that four inputs and four outputs need
+-- the buffers that are lent: zeros, for as many states as the limit with four inputs and four outputs
 unfoldable pub lent : Buffers
 lent =
     buffers (replicate {A = ℕ} (stateLimit * letterLimit) 0) (replicate {A = ℕ} stateLimit 0)

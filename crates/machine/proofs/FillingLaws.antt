@@ -1,5 +1,5 @@
--- The second walk's steps (specs/inner/Exploration.antt): once all states are listed, the state that a letter leads to has a place in the list, any place that
--- holds it is its number, and a letter that leads where an earlier one does has its transition. Assumes nothing.
+-- The second walk's steps (specs/inner/Exploration.antt): once all states are listed, a search for the state that a letter leads to ends at its number; and a
+-- letter that leads where an earlier one does has its transition. Assumes nothing.
 use Prim.Native.Nat.{ℕ, suc, _+_, _*_, _≤_, _<_, min}
 use mathlib.Core.Path.{_≡_, sym, ap, ap₂, _∙_}
 use mathlib.Core.List.{List}

@@ -113,7 +113,8 @@ impl Case {
         Ok(wanted.ok())
     }
 
-    /// Counts a refusal: with 3 by the buffers that are short, with 4 to 9 by the buffers that would be if 3 came first.
+    /// Counts a refusal: with 3 by the buffers that are short, with 4 to 9 by buffers so short that 3 would come if it
+    /// came first, and with 9 also by full ones.
     fn count_refused(&self, refusal: Refusal, tally: &mut Tally) {
         let (number, lengths) = (refusal.number, self.lengths());
         let name = format!("rule: refused {number:2}");

@@ -10,7 +10,7 @@ returns : tie.Need-returns
 returns c = rw (lt-ltb _ _ (c .if1 .taken))
 
 mul-if2 : tie.Need-mul-if2
-mul-if2 c = let p = c .before .pre in omega (arith, mul-le-mul (p .1) (p .0))
+mul-if2 c = let p = c .before .pre in omega (arith, p .0, mul-le-mul (p .1) (p .0))
 
 returns-2 : tie.Need-returns-2
 returns-2 c = rw (le-ltb _ _ (c .before .if1 .left), lt-ltb _ _ (c .if2 .taken))

@@ -46,6 +46,7 @@
  *     12  the start or the state is n or more
  *     13  the mask has a bit that stands for no input, or the input or a letter is too large; place: for a letter its
  *         index in `letters`
+ *     15  no input number meets the condition, or the mask is 0: the outside could not keep its promise
  *
  * What a call writes. Every single value (can, n, round, place, satisfied, row, output) is written by every call: on a
  * refusal it is 0, with two exceptions: `place`; and `n` with refusal 3 of a rule, which is the number of states that
@@ -84,7 +85,7 @@ extern "C" {
 #define AIRTABLE_FAIR 0   /* it holds again and again */
 #define AIRTABLE_STABLE 1 /* from some step on it holds always */
 
-/* What a call returns: served, or the number of the refusal in the table above. */
+/* What a call returns: served, or the number of the refusal in the table above. 14 is the program's alone. */
 #define AIRTABLE_SERVED 0
 #define AIRTABLE_REFUSED_ALPHABET 1
 #define AIRTABLE_REFUSED_TEXT_LENGTH 2
@@ -99,6 +100,7 @@ extern "C" {
 #define AIRTABLE_REFUSED_MOVE 11
 #define AIRTABLE_REFUSED_STATE 12
 #define AIRTABLE_REFUSED_VALUE 13
+#define AIRTABLE_REFUSED_UNSATISFIABLE 15
 
 /* The most states that an automaton has. */
 #define AIRTABLE_STATES 128
@@ -113,7 +115,7 @@ extern "C" {
 #define AIRTABLE_OUTSIDE_SIZE(i, o, n) ((size_t)(n))
 
 /*
- * Solves the game of a rule. Refusals in this order: 1, 2, 4, 5, 6, 7, 8, 9, 3.
+ * Solves the game of a rule. Refusals in this order: 1, 2, 4, 5, 6, 7, 8, 15, 9, 3.
  *
  * Lend at least n * 2^(i+o) bytes for moves, n for marks, n * 2^i for station and n for outside (the sizes above); n is
  * the number of the rule's states. Where one of them is shorter the call is refused by 3 and tells n. Every rule has at
@@ -139,12 +141,14 @@ uint8_t airtable_solve_rule(size_t i, size_t o, uint8_t mode,
     uint8_t *can, size_t *n, size_t *round, size_t *place);
 
 /*
- * Solves the game on an automaton of your own, with n states from 1 to 128. Refusals in this order: 1, 10, 3, 12, 11, 13.
+ * Solves the game on an automaton of your own, with n states from 1 to 128. Refusals in this order: 1, 10, 3, 12, 11, 13,
+ * 15.
  *
  * Give at least n * 2^(i+o) bytes of moves and n of marks (any mark but 0 is a goal), laid out as above; they are only
  * read. Lend at least n * 2^i bytes for station and n for outside; can, round and the two tables are written as above,
  * with `start` for state 0 and "enters a goal" for "satisfies the rule". Bit x of mask says whether input number x has
- * the condition. A mark on the start has no effect before a step leads back to it.
+ * the condition; at least one of its lowest 2^i bits must be set, and none above. A mark on the start has no effect before
+ * a step leads back to it.
  */
 uint8_t airtable_solve_given(size_t i, size_t o, uint8_t mode, size_t n,
     const uint8_t *moves, size_t moves_length, const uint8_t *marks, size_t marks_length,

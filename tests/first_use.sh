@@ -77,7 +77,7 @@ runs 'standard input after --' 0 "$answer" '"$airtable" -- < examples/closed-cue
 runs '- after --' 0 "$answer" '"$airtable" -- - < examples/closed-cue.rule'
 runs 'a file that is a pipe' 0 "$answer" '"$airtable" <(cat examples/closed-cue.rule)'
 runs 'a file, standard input closed' 0 "$answer" '"$airtable" examples/closed-cue.rule <&-'
-for words in 'usage: airtable [FILE]' '1 1 ' 'fair ' 'stable' '!pU(a&p)' 'Exit status: 0 answered' '1 refused' '2 wrong use' README.md; do
+for words in 'usage: airtable [FILE]' '1 1 ' 'fair ' 'stable' 'some input must meet it' '!pU(a&p)' 'Exit status: 0 answered' '1 refused' '2 wrong use' README.md; do
     runs "the help has '$words'" 0 '' "grep -qF -- $(printf '%q' "$words") \"\$room/help\""
 done
 runs '-h' 0 "$(cat "$room/help")"$'\n' '"$airtable" -h'
@@ -162,6 +162,11 @@ refuses '1 1\nstable\n a)\nFp\n' '7 2' "line 3, the condition: ')' cannot stand 
 refuses '1 1\nstable\na\r\nFp\n' '7 1' 'line 3, the condition: a carriage return (0x0d;' $'\n    a?\n     ^'
 refuses "1 1\nfair\n$a32&($a32)\nFp\n" '8 0' 'line 3, the condition, has 127 names, constants and operators together; it may have 64'
 refuses '4 4\nfair\n1\nF((a|Gp)&(b|Gq)&(c|Gr)&(d|Gs))\n' '9 0' 'line 4, the rule: its automaton has more than 128 states'
+refuses '1 1\nfair\n0\nFp\n' '15 0' 'line 3, the condition: no input meets it, so the outside could not keep its promise'
+refuses '1 1\nstable\na & !a\nFp\n' '15 0' 'line 3, the condition: no input meets it'
+refuses '0 0\nfair\n!1\n1\n' '15 0' 'line 3, the condition: no input meets it'
+refuses '4 4\nfair\na&!a\nF((a|Gp)&(b|Gq)&(c|Gr)&(d|Gs))\n' '15 0' 'line 3, the condition: no input meets it'
+refuses '1 1\nfair\n0\nFp&\n' '4 3' 'line 4, the rule: the text ends too early'
 
 refuses '' '14 0' 'the input is empty'
 refuses "1 1\nfair\na\nFp$(times 2034 ' ')\n" '2 0' 'line 4, the rule, has 2036 bytes' # 2,048 in all
@@ -355,8 +360,8 @@ program() { # TEXT: of a shell script in the program's place
 program 'wc -c > "$fake/size"; echo refused 14 0'
 runs 'no more is read than need be' 1 $'refused 14 0\n' "$without_rt"'ulimit -f 100; cat /dev/zero | "$airtable"' 'the input has more than 2,048 bytes'
 runs 'and no less' 0 $'2049\n' 'cat "$fake/size"'
-program 'echo refused 15 3'
-runs 'a refusal that is not known' 1 $'refused 15 3\n' "$without_rt$five" 'refusal 15, place 3'
+program 'echo refused 16 3'
+runs 'a refusal that is not known' 1 $'refused 16 3\n' "$without_rt$five" 'refusal 16, place 3'
 program 'echo "airtable: cannot read standard input" >&2'
 fails 'the program cannot read' "$without_rt$five" 'airtable: cannot read standard input' 'no whole answer'
 program 'printf "can 2 1\n0 - S 0\n"; echo "airtable: cannot write standard output" >&2'

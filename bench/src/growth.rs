@@ -1,6 +1,6 @@
-//! Growth of the automaton's time. A rule is called in fair mode under the condition `0`,
-//! so that one pass ends the game; what is left of the game and the tables is timed by the call
-//! for a given automaton on the same automaton, and taken off.
+//! Growth of the automaton's time. A rule is called in fair mode under the condition `1`,
+//! so that a few passes end the game; what the game and the tables take is timed by the call
+//! for a given automaton on the same automaton and under the same condition, and taken off.
 
 use crate::cells;
 use crate::clock::{median, samples};
@@ -10,6 +10,7 @@ use crate::inputs::Rule;
 use crate::table::{code, short, Table};
 use crate::timed::{library_given, library_rule, solver_given, solver_rule, Call};
 use solver::calls::Given;
+use solver::conditions::met_by;
 use solver::Mode;
 
 const HEADS: [&str; 11] = [
@@ -44,7 +45,7 @@ impl Member<'_> {
     /// A rule's automaton from the library, which the solver agrees with.
     fn new(rule: &Rule) -> Member<'_> {
         let library = check_rule(rule, Mode::Fair).expect("a family within the limits");
-        let (n, start, mask) = (library.n, 0, 0);
+        let (n, start, mask) = (library.n, 0, met_by(&rule.condition, rule.i));
         let moves = library.moves[..n * rule.letters()].to_vec();
         Member { rule, given: Given { n, moves, marks: library.marks[..n].to_vec(), start, mask } }
     }

@@ -12,12 +12,11 @@ pub struct Rule {
     pub text: Vec<u8>,
 }
 
-/// The readings, all with one input and one output: condition and rule.
-const READINGS: [(&str, &str); 11] = [
+/// The readings that are served, all with one input and one output: condition and rule.
+const READINGS: [(&str, &str); 10] = [
     ("1", "Fp"),
     ("1", "Fa"),
     ("a", "Fa"),
-    ("0", "Fa"),
     ("a", "Ga"),
     ("a", "F(a&Xa)"),
     ("1", "Xa"),

@@ -210,7 +210,7 @@ static void check_refused(int line, size_t wanted_place)
         check_refused(__LINE__, wanted_place);                                                 \
     } while (0)
 
-/* The refusals of the rule call, each by its name, and the place. */
+/* The refusals of the rule call, each by its name, and the place; and some at once. */
 static void refused_rules(void)
 {
     char many[65 + 1], longer[256 + 1];
@@ -227,6 +227,11 @@ static void refused_rules(void)
     REFUSED(1, 2, "XXXXXXa", "a", AIRTABLE_REFUSED_RULE_OPERATORS, 0);
     REFUSED(1, 2, rule, "a|p", AIRTABLE_REFUSED_CONDITION_TEXT, 2);
     REFUSED(1, 2, rule, many, AIRTABLE_REFUSED_CONDITION_NODES, 0);
+    REFUSED(1, 2, rule, "a&!a", AIRTABLE_REFUSED_UNSATISFIABLE, 0);
+    REFUSED(0, 2, "Fp", "0", AIRTABLE_REFUSED_UNSATISFIABLE, 0);
+    REFUSED(1, 2, "a&q&", "a&!a", AIRTABLE_REFUSED_RULE_TEXT, 4);
+    REFUSED(1, 2, rule, "a&!a&", AIRTABLE_REFUSED_CONDITION_TEXT, 5);
+    REFUSED(4, 4, "F((a|Gp)&(b|Gq)&(c|Gr)&(d|Gs))", "0", AIRTABLE_REFUSED_UNSATISFIABLE, 0);
     REFUSED(4, 4, "F((a|Gp)&(b|Gq)&(c|Gr)&(d|Gs))", "1", AIRTABLE_REFUSED_STATE_COUNT, 0);
     CHECK(ask(1, 2, rule, "a"), AIRTABLE_REFUSED_BUFFER);
     CHECK(n, 4);
@@ -314,7 +319,7 @@ static void check_refused_given(int line, size_t wanted_place)
     check_bytes(line, "outside", outside, 0, ROOM, OLD_OUTSIDE);
 }
 
-/* The refusals of a given automaton: the count, a buffer, the start, the mask and a move. */
+/* The refusals of a given automaton: the count, a buffer, the start, the mask and a move; and two at once. */
 static void refused_given(void)
 {
     uint8_t wrong_moves[24];
@@ -327,6 +332,12 @@ static void refused_given(void)
     CHECK(solve_given(GIVEN_STATES, 3, GIVEN_MASK), AIRTABLE_REFUSED_STATE);
     check_refused_given(__LINE__, 0);
     CHECK(solve_given(GIVEN_STATES, 2, 16 + GIVEN_MASK), AIRTABLE_REFUSED_VALUE);
+    check_refused_given(__LINE__, 0);
+    CHECK(solve_given(GIVEN_STATES, 2, 16), AIRTABLE_REFUSED_VALUE);
+    check_refused_given(__LINE__, 0);
+    CHECK(solve_given(GIVEN_STATES, 2, 0), AIRTABLE_REFUSED_UNSATISFIABLE);
+    check_refused_given(__LINE__, 0);
+    CHECK(solve_given(GIVEN_STATES, 3, 0), AIRTABLE_REFUSED_STATE);
     check_refused_given(__LINE__, 0);
 
     memcpy(wrong_moves, given_moves, sizeof wrong_moves);

@@ -116,14 +116,15 @@ fn read_rule(i: usize, o: usize, rule: &[u8]) -> Result<Tree, Refusal> {
     Ok(tree)
 }
 
-/// Reads a condition under the limits: refusals 7 and 8.
+/// Reads a condition that some input number meets, under the limits: refusals 7, 8 and 15.
 fn read_condition(i: usize, condition: &[u8]) -> Result<Tree, Refusal> {
     let tree = read(condition, Wording::condition(i)).map_err(|k| Refusal::placed(7, k))?;
     refuse_if(tree.count() > 64, 8)?;
+    refuse_if((0..1 << i).all(|x| !tree.plain_value(tree.root, i, x)), 15)?;
     Ok(tree)
 }
 
-/// Reads rule and condition after all earlier checks: refusals 1, 2 and 4 to 8.
+/// Reads rule and condition after all earlier checks: refusals 1, 2, 4 to 8 and 15.
 fn rule_and_condition(i: usize, o: usize, rule: &[u8], condition: &[u8]) -> Result<(Tree, u16), Refusal> {
     refuse_if(i > 4 || o > 4, 1)?;
     refuse_if(rule.len() > 255 || condition.len() > 255, 2)?;
@@ -149,7 +150,7 @@ pub fn game_of(automaton: &Automaton, i: usize, o: usize, mask: u16, mode: Mode)
     Game { i, o, n: automaton.n(), moves, goals, mask, mode }
 }
 
-/// The call for a rule. Refusals 1, 2, 4, 5, 6, 7, 8, 9, 3.
+/// The call for a rule. Refusals 1, 2, 4, 5, 6, 7, 8, 15, 9, 3.
 pub fn solve_rule(
     i: usize,
     o: usize,
@@ -171,7 +172,7 @@ pub fn solve_rule(
     Ok(Verdict { can: tables.outside[0] == 255, n: game.n, round: tables.round })
 }
 
-/// The refusals of the call for a given automaton, in its order: 1, 10, 3, 12, 11, 13.
+/// The refusals of the call for a given automaton, in its order: 1, 10, 3, 12, 11, 13, 15.
 fn check_given(i: usize, o: usize, given: &Given, station: usize, outside: usize) -> Result<(), Refusal> {
     refuse_if(i > 4 || o > 4, 1)?;
     refuse_if(given.n == 0 || given.n > STATES, 10)?;
@@ -181,7 +182,8 @@ fn check_given(i: usize, o: usize, given: &Given, station: usize, outside: usize
     if let Some(index) = given.moves[..shares[0]].iter().position(|&t| t as usize >= given.n) {
         return Err(Refusal::placed(11, index));
     }
-    refuse_if((1usize << i..16).any(|x| given.mask >> x & 1 == 1), 13)
+    refuse_if((1usize << i..16).any(|x| given.mask >> x & 1 == 1), 13)?;
+    refuse_if((0..1usize << i).all(|x| given.mask >> x & 1 == 0), 15)
 }
 
 /// The game on a given automaton that has passed its checks.

@@ -18,11 +18,12 @@
 //! header     the library in C, for the programs that call it
 //! prototypes what include/airtable.h declares, read from its text
 //! signatures the public functions of the crates, read from their sources
-//! chance, makers  seeded random inputs for the comparing programs
+//! chance, makers, conditions  seeded random inputs for the comparing programs
 
 pub mod automaton;
 pub mod calls;
 pub mod chance;
+pub mod conditions;
 pub mod game;
 pub mod header;
 pub mod judge;

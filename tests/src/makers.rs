@@ -1,6 +1,7 @@
 //! Seeded makers of texts, automata and lists for the comparing programs and the tests.
 
 use crate::chance::Chance;
+use crate::conditions::{met_by, unmet_condition};
 
 /// A text under making, with the temporal operators still allowed.
 struct Making<'a> {
@@ -202,14 +203,18 @@ pub fn any_condition(chance: &mut Chance, i: usize) -> Vec<u8> {
             let text = good_condition(chance, i);
             damaged(chance, text)
         }
+        3 => unmet_condition(chance, i),
         _ => good_condition(chance, i),
     }
 }
 
-/// A condition that is a text of the grammar.
+/// A condition that is a text of the grammar and that some input number meets.
 pub fn good_condition(chance: &mut Chance, i: usize) -> Vec<u8> {
     let size = chance.pick(&[1, 1, 1, 2, 3, 7]);
-    let text = rule_text(chance, i, 0, size, 0);
+    let mut text = rule_text(chance, i, 0, size, 0);
+    while met_by(&text, i) == 0 {
+        text = rule_text(chance, i, 0, size, 0);
+    }
     if chance.one_in(3) {
         with_blanks(chance, text)
     } else {

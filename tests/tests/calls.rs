@@ -62,6 +62,8 @@ fn rule_order() {
         assert_eq!(ask(1, 1, b"1", &thick), plain(8));
         assert_eq!(ask(4, 4, MANY, b"a &"), placed(7, 3));
         assert_eq!(ask(4, 4, MANY, &thick), plain(8));
+        assert_eq!(ask(4, 4, MANY, b"a&!a"), plain(15));
+        assert_eq!(ask(1, 1, b"Fp", b"0"), plain(15));
         assert_eq!(ask(4, 4, MANY, b"1"), plain(9));
     }
     assert_eq!(refused(1, 1, b"Fp", b"1", [0; 4]), short(3));
@@ -139,7 +141,7 @@ fn rule_asked_for_its_states() {
 
 /// A given automaton with one state that is no goal, i = o = 1.
 fn given() -> Given {
-    Given { n: 1, moves: vec![0; 4], marks: vec![0], start: 0, mask: 0 }
+    Given { n: 1, moves: vec![0; 4], marks: vec![0], start: 0, mask: 2 }
 }
 
 #[test]
@@ -168,10 +170,11 @@ fn given_order() {
     bad.moves = vec![0, 0, 0, 0, 9];
     assert_eq!(ask(1, &bad, 2, 1), plain(13));
     assert_eq!(ask(1, &Given { moves: vec![0; 3], ..given() }, 2, 1), short(1));
+    assert_eq!(ask(1, &Given { mask: 0, ..given() }, 2, 1), plain(15), "no input has the condition");
     let can = Ok(Verdict { can: true, n: 1, round: 1 });
-    assert_eq!(ask(1, &given(), 2, 1), can, "no input has the condition");
+    assert_eq!(ask(1, &Given { marks: vec![1], ..given() }, 2, 1), can);
     let cannot = Ok(Verdict { can: false, n: 1, round: 0 });
-    assert_eq!(ask(1, &Given { mask: 2, ..given() }, 2, 1), cannot);
+    assert_eq!(ask(1, &given(), 2, 1), cannot);
 }
 
 #[test]

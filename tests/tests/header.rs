@@ -1,5 +1,6 @@
 //! Include/airtable.h held against what it declares: its prototypes against the signatures in
-//! crates/capi/src/lib.rt, and its names of the refusals against the definition of their numbers.
+//! crates/capi/src/lib.rt, its names of the refusals against the definition of their numbers, and the orders of refusals at
+//! its calls against the specification.
 
 use solver::prototypes::{constants, prototypes, rust_declarations, Base, Form, Prototype, Type};
 use solver::signatures::{of_source, Function};
@@ -158,9 +159,35 @@ fn refusals_have_their_numbers() {
     let (definitions, text) = (file("crates/reader/specs/Refusal.antt"), file("include/airtable.h"));
     let wanted = numbers(&definitions);
     assert_eq!(refusals(&text), wanted);
-    assert_eq!(wanted.iter().map(|(_, number)| *number).collect::<BTreeSet<_>>(), (0..14).collect());
+    // 14 is the program's alone.
+    let all: BTreeSet<usize> = (0..14).chain([15]).collect();
+    assert_eq!(wanted.iter().map(|(_, number)| *number).collect::<BTreeSet<_>>(), all);
     assert!(wanted.contains(&("AIRTABLE_REFUSED_CONDITION_TEXT".into(), 7)));
+    assert!(wanted.contains(&("AIRTABLE_REFUSED_UNSATISFIABLE".into(), 15)));
     let swapped = text.replace("RULE_NODES 5", "RULE_NODES 6").replace("RULE_OPERATORS 6", "RULE_OPERATORS 5");
     assert_ne!(refusals(&swapped), wanted);
-    assert_ne!(refusals(&text.replace("#define AIRTABLE_REFUSED_MOVE 11\n", "")), wanted);
+    for line in ["#define AIRTABLE_REFUSED_MOVE 11\n", "#define AIRTABLE_REFUSED_UNSATISFIABLE 15\n"] {
+        assert_ne!(refusals(&text.replace(line, "")), wanted);
+    }
+}
+
+/// The orders of refusals that stand at the calls of a header.
+fn header_orders(header: &str) -> Vec<String> {
+    let text = header.replace("\n *", "");
+    let orders = text.split("Refusals in this order: ").skip(1);
+    orders.map(|rest| rest.split('.').next().unwrap().replace("then ", "")).collect()
+}
+
+/// The orders of the library's calls in the specification's table.
+fn specified_orders(specification: &str) -> Vec<String> {
+    let rows = specification.lines().skip_while(|line| *line != "| Call | Order |").skip(2).take(4);
+    rows.map(|row| row.trim_matches(['|', ' ']).split_once(" | ").unwrap().1.to_string()).collect()
+}
+
+#[test]
+fn orders_are_the_specifications() {
+    let (text, wanted) = (file("include/airtable.h"), specified_orders(&file("docs/SPECIFICATION.md")));
+    assert_eq!(header_orders(&text), wanted);
+    assert_eq!(wanted[..2], ["1, 2, 4, 5, 6, 7, 8, 15, 9, 3", "1, 10, 3, 12, 11, 13, 15"]);
+    assert_ne!(header_orders(&text.replace("8, 15, 9, 3", "8, 9, 15, 3")), wanted);
 }

@@ -2,7 +2,8 @@
 //! engineer would make.
 
 use solver::automaton::build;
-use solver::calls::{solve_given, solve_rule, try_rule, Given, Refusal, Verdict};
+use solver::calls::{game_of_given, solve_given, solve_rule, try_rule, Given, Refusal, Verdict};
+use solver::conditions::met_by;
 use solver::judge::judge;
 use solver::listing::{airtable, buffers};
 use solver::reader::read;
@@ -14,10 +15,9 @@ use std::fs;
 fn solve(i: usize, o: usize, mode: Mode, condition: &str, rule: &str) -> Result<Verdict, Refusal> {
     let mut space = buffers(i, o);
     let verdict = solve_rule(i, o, mode, rule.as_bytes(), condition.as_bytes(), &mut space)?;
-    let given = Given { n: verdict.n, moves: space.moves.clone(), marks: space.marks.clone(), start: 0, mask: 0 };
-    let mut game = solver::calls::game_of_given(i, o, mode, &given);
-    let tree = read(condition.as_bytes(), Wording::condition(i)).unwrap();
-    game.mask = solver::tree::condition_mask(&tree, i);
+    let mask = met_by(condition.as_bytes(), i);
+    let given = Given { n: verdict.n, moves: space.moves.clone(), marks: space.marks.clone(), start: 0, mask };
+    let game = game_of_given(i, o, mode, &given);
     let wins = judge(&game, 0, verdict.round, &space.station, &space.outside).unwrap();
     assert_eq!(wins, solver::game::winners(&game));
     assert_eq!(wins[0], verdict.can);
@@ -39,27 +39,33 @@ const fn cannot(n: usize) -> Verdict {
     Verdict { can: false, n, round: 0 }
 }
 
-/// A reading: the rule, the mode, the condition, and the verdict.
-type Row = (String, Mode, String, Verdict);
+/// What a call comes to.
+type Outcome = Result<Verdict, Refusal>;
+
+/// No input number meets the condition.
+const UNMET: Outcome = Err(Refusal::plain(15));
+
+/// A reading: the rule, the mode, the condition, and what it comes to.
+type Row = (String, Mode, String, Outcome);
 
 /// The readings that the specification marks as proved, in its order.
-const PROVED: [(&str, Mode, &str, Verdict); 11] = [
-    ("Fp", Fair, "1", can(3, 1)),
-    ("Fa", Fair, "1", cannot(3)),
-    ("Fa", Fair, "a", can(3, 1)),
-    ("Fa", Fair, "0", can(3, 1)),
-    ("Ga", Stable, "a", cannot(3)),
-    ("F(a&Xa)", Fair, "a", cannot(4)),
-    ("F(a&Xa)", Stable, "a", can(4, 2)),
-    ("Xa", Fair, "1", cannot(4)),
-    ("Na", Fair, "1", can(4, 1)),
-    ("a&p|!a&!p", Fair, "1", can(3, 1)),
-    ("pUa", Fair, "a", can(4, 1)),
+const PROVED: [(&str, Mode, &str, Outcome); 11] = [
+    ("Fp", Fair, "1", Ok(can(3, 1))),
+    ("Fa", Fair, "1", Ok(cannot(3))),
+    ("Fa", Fair, "a", Ok(can(3, 1))),
+    ("Fa", Fair, "0", UNMET),
+    ("Ga", Stable, "a", Ok(cannot(3))),
+    ("F(a&Xa)", Fair, "a", Ok(cannot(4))),
+    ("F(a&Xa)", Stable, "a", Ok(can(4, 2))),
+    ("Xa", Fair, "1", Ok(cannot(4))),
+    ("Na", Fair, "1", Ok(can(4, 1))),
+    ("a&p|!a&!p", Fair, "1", Ok(can(3, 1))),
+    ("pUa", Fair, "a", Ok(can(4, 1))),
 ];
 
 /// Whether some rows are these: all of them, in order, each as it is.
 fn are_proved(rows: &[Row]) -> bool {
-    let same = |row: &Row, proved: &(&str, Mode, &str, Verdict)| (&row.0[..], row.1, &row.2[..], row.3) == *proved;
+    let same = |row: &Row, proved: &(&str, Mode, &str, Outcome)| (&row.0[..], row.1, &row.2[..], row.3) == *proved;
     rows.len() == PROVED.len() && rows.iter().zip(&PROVED).all(|(row, proved)| same(row, proved))
 }
 
@@ -71,14 +77,24 @@ fn section(name: &str) -> String {
     rest.split("\n## ").next().unwrap().to_string()
 }
 
-/// The readings of a text such as "`Fa` cannot, 3, 0; fair `a` can, 3, 1. `Xa` cannot, 4, 0.": the rule stands before its first
-/// reading, and where no mode and condition are named they are fair and `1`. The numbers are n and the round number.
+/// A reading's words before what it comes to, and that: "cannot, 3, 0", with n and the round number, or "refused by 15".
+fn outcome_of(part: &str) -> (&str, Outcome) {
+    if let Some((told, number)) = part.split_once(" refused by ") {
+        return (told, Err(Refusal::plain(number.parse().unwrap())));
+    }
+    let [told, n, round] = part.split(", ").collect::<Vec<_>>()[..] else { panic!("{part}") };
+    let (told, verdict) = told.rsplit_once(' ').unwrap();
+    let can = [("can", true), ("cannot", false)].iter().find(|(word, _)| *word == verdict).unwrap().1;
+    (told, Ok(Verdict { can, n: n.parse().unwrap(), round: round.parse().unwrap() }))
+}
+
+/// The readings of a text such as "`Fa` cannot, 3, 0; fair `a` can, 3, 1; fair `0` refused by 15. `Xa` cannot, 4, 0.": the rule
+/// stands before its first reading, and where no mode and condition are named they are fair and `1`.
 fn readings_of(text: &str) -> Vec<Row> {
     let mut rows: Vec<Row> = Vec::new();
     for part in text.trim().trim_end_matches('.').split(['.', ';']).map(str::trim) {
-        let [told, n, round] = part.split(", ").collect::<Vec<_>>()[..] else { panic!("{part}") };
+        let (told, outcome) = outcome_of(part);
         let words: Vec<&str> = told.split(' ').collect();
-        let (can, words) = words.split_last().unwrap();
         let quoted = |word: &str| word.strip_prefix('`').and_then(|word| word.strip_suffix('`')).map(str::to_string);
         let first = words.first().and_then(|word| quoted(word));
         let rule = first.clone().unwrap_or_else(|| rows.last().unwrap().0.clone());
@@ -88,8 +104,7 @@ fn readings_of(text: &str) -> Vec<Row> {
             ["stable", condition] => (Stable, quoted(condition).unwrap()),
             _ => panic!("{part}"),
         };
-        let can = [("can", true), ("cannot", false)].iter().find(|(word, _)| word == can).unwrap().1;
-        rows.push((rule, mode, condition, Verdict { can, n: n.parse().unwrap(), round: round.parse().unwrap() }));
+        rows.push((rule, mode, condition, outcome));
     }
     rows
 }
@@ -97,15 +112,18 @@ fn readings_of(text: &str) -> Vec<Row> {
 #[test]
 fn the_specification_has_the_proved_readings() {
     let text = section("Readings").replace('\n', " ");
-    let (_, rest) = text.split_once(" the verdict, n and r: ").unwrap();
+    let (_, rest) = text.split_once(" the verdict, n and r, or the refusal: ").unwrap();
     let (proved, _) = rest.split_once(" These are proved.").unwrap();
     assert!(are_proved(&readings_of(proved)), "{proved}");
+    for (old, new) in [("refused by 15", "can, 3, 1"), ("refused by 15", "refused by 9"), ("fair `0`", "stable `0`")] {
+        assert!(!are_proved(&readings_of(&proved.replace(old, new))), "{new}");
+    }
 }
 
 #[test]
 fn proved_readings() {
-    for (rule, mode, condition, verdict) in PROVED {
-        reading(mode, condition, rule, verdict);
+    for (rule, mode, condition, outcome) in PROVED {
+        assert_eq!(solve(1, 1, mode, condition, rule), outcome, "{rule} {mode:?} {condition}");
     }
 }
 
@@ -130,15 +148,21 @@ fn text_of(list: &str) -> String {
     bytes.map(|byte| char::from(byte.parse::<u8>().unwrap())).collect()
 }
 
-/// A row as the theorem has it: `row (70 ∷ 112 ∷ []) Fair (49 ∷ []) 3 1`. The round number says whether the station can.
+/// A row as the theorem has it: `row (70 ∷ 112 ∷ []) Fair (49 ∷ []) 3 1`, of which the last number, the round number, says
+/// whether the station can, or `unmet (70 ∷ 97 ∷ []) Fair (48 ∷ [])`.
 fn row_of(line: &str) -> Row {
-    let (rule, rest) = line.strip_prefix("row (").unwrap().split_once(") ").unwrap();
+    let (word, rest) = line.split_once(" (").unwrap();
+    let (rule, rest) = rest.split_once(") ").unwrap();
     let (mode, rest) = rest.split_once(" (").unwrap();
-    let (condition, rest) = rest.split_once(") ").unwrap();
-    let (n, round) = rest.split_once(' ').unwrap();
+    let (condition, rest) = rest.split_once(')').unwrap();
+    let numbers: Vec<usize> = rest.split_whitespace().map(|number| number.parse().unwrap()).collect();
+    let outcome = match (word, &numbers[..]) {
+        ("row", &[n, round]) => Ok(Verdict { can: round > 0, n, round }),
+        ("unmet", []) => UNMET,
+        _ => panic!("{line}"),
+    };
     let mode = [("Fair", Fair), ("Stable", Stable)].iter().find(|(word, _)| *word == mode).unwrap().1;
-    let (n, round) = (n.parse().unwrap(), round.parse().unwrap());
-    (text_of(rule), mode, text_of(condition), Verdict { can: round > 0, n, round })
+    (text_of(rule), mode, text_of(condition), outcome)
 }
 
 /// The lines of the theorem's rows, in order, and nothing beside them.
@@ -154,7 +178,15 @@ fn have_proved(lines: &[&str]) -> bool {
     are_proved(&lines.iter().map(|line| row_of(line)).collect::<Vec<_>>())
 }
 
-/// Each way to change one word of a row: the other mode, or a number one higher.
+/// The row with the other outcome: refused by 15, or n and the round number.
+fn other_outcome(line: &str) -> String {
+    match line.strip_prefix("unmet ") {
+        Some(rest) => format!("row {rest} 3 1"),
+        None => format!("{})", line.replacen("row", "unmet", 1).rsplit_once(')').unwrap().0),
+    }
+}
+
+/// Each way to change one word of a row: the other mode, or a number one higher; and the other outcome.
 fn changes(line: &str) -> Vec<String> {
     let words: Vec<&str> = line.split(' ').collect();
     let other = |word: &str| match word {
@@ -167,12 +199,15 @@ fn changes(line: &str) -> Vec<String> {
     };
     let changed =
         |k: usize| other(words[k]).map(|word: String| [&words[..k], &[&word[..]], &words[k + 1..]].concat().join(" "));
-    (0..words.len()).filter_map(changed).collect()
+    (0..words.len()).filter_map(changed).chain([other_outcome(line)]).collect()
 }
 
 /// What the words of a row stand for.
-const ROW: [&str; 2] = [
-    "row rule mode condition n round = rowOf 1 1 rule mode condition n round",
+const ROW: [&str; 5] = [
+    "row rule mode condition n round = decided (rowOf 1 1 rule mode condition n round)",
+    "unmet rule mode condition = unsatisfiable 1 1 rule mode condition",
+    "LineHolds (decided r) = RowHolds r",
+    "LineHolds (unsatisfiable i o rule mode condition) = Unmet i o rule condition",
     "rowOf i o rule mode condition n round = record { inputs = i; outputs = o; rule = rule; mode = mode; condition = condition; count = n; round = round }",
 ];
 
@@ -196,7 +231,7 @@ fn the_theorem_has_the_proved_readings() {
             assert!(!have_proved(&swapped), "{} for {}", lines[other], lines[k]);
         }
         let changes = changes(lines[k]);
-        assert!(changes.len() > 5);
+        assert!(changes.len() > 4);
         for change in changes {
             let mut changed = lines.clone();
             changed[k] = &change;
@@ -327,6 +362,10 @@ fn program_refusals() {
     assert_eq!(told(b"1 0\nfair\n\nFa\n"), "refused 7 0\n");
     assert_eq!(told(b"1 0\nfair\n1 \r\nFa\n"), "refused 7 2\n");
     assert_eq!(told(b"1 0\nfair\n1\nF(a&p\n"), "refused 4 4\n");
+    assert_eq!(told(b"1 0\nfair\na&!a\nFa\n"), "refused 15 0\n");
+    assert_eq!(told(b"0 0\nstable\n0\n1\n"), "refused 15 0\n");
+    assert_eq!(told(b"0 0\nstable\n1\n1\n"), "can 2 1\n0 - S 0\n1 * S 0\n");
+    assert_eq!(told(b"1 0\nfair\na&!a\nF(\n"), "refused 4 2\n");
     let mut long = b"1 0\nfair\n1\n".to_vec();
     long.resize(2047, b' ');
     long.push(b'\n');

@@ -40,14 +40,6 @@ fn as_many_steps_as_states() {
 }
 
 #[test]
-fn no_input_has_the_condition() {
-    for mode in [Fair, Stable] {
-        let idle = Game { mask: 0, ..game(mode, (1, 1, 2), &[], |s, _, _| s) };
-        assert_eq!([number(&idle, 0), number(&idle, 1)], [1, 1], "{mode:?}");
-    }
-}
-
-#[test]
 fn zero_where_the_outside_wins() {
     for mode in [Fair, Stable] {
         let stuck = game(mode, (1, 1, 3), &[1], |s, _, _| [1, 1, 2][s]);

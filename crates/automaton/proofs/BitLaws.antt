@@ -6,9 +6,11 @@ use mathlib.Core.List.{List, [], _∷_}
 use mathlib.Core.Logic.{⊎-elim}
 use native.Mathlib.Nat.{mul-add-mod-self-right, mod-eq-of-lt, pow-suc, mul-comm, mul-assoc, add-comm, le-refl, lt-of-lt-of-le}
 use native.Mathlib.Nat.{le-of-suc-le-suc, not-suc-le-zero, eq-or-lt-of-le, le-step, add-mul-div-right, add-mul-mod-self-right, div-eq-of-lt, sub-add-cancel}
+use native.Mathlib.Nat.{div-lt-iff-lt-mul}
 use native.Mathlib.Omega.{arith}
 use native.Mathlib.Numerals.{add-one}
 use lib.Dec.{eqb}
+use borrow.Author.Tests.{eqb-false}
 use lib.ListN.{length, getD}
 use lib.Arith.{digits-lt}
 use lib.Bits.{bitAnd, bitOr, bitXor, and-block, or-block, xor-block, or-shifted-r}
@@ -61,6 +63,28 @@ pub ofBits-ext : (f g : ℕ → Bool) (n : ℕ) → ((k : ℕ) → k < n → f k
 unfolding ofBits
 ofBits-ext f g zero h = refl
 ofBits-ext f g (suc n) h = ap₂ (λ (b : Bool) (m : ℕ). one b * 2 ^ n + m) (h n (le-refl (suc n))) (ofBits-ext f g n (λ k l. h k (le-step l)))
+
+-- a number without a bit is 0, and 0 has no bit
+pub ofBits-none : (f : ℕ → Bool) (n : ℕ) → ((k : ℕ) → k < n → f k ≡ false) → ofBits f n ≡ 0
+unfolding ofBits
+ofBits-none f zero h = refl
+ofBits-none f (suc n) h =
+    let e : 0 * 2 ^ n + 0 ≡ 0 = omega arith in
+    ap₂ (λ (b : Bool) (m : ℕ). one b * 2 ^ n + m) (h n (le-refl (suc n))) (ofBits-none f n (λ k l. h k (le-step l))) ∙ e
+
+pub bit-zero : (k : ℕ) → bit 0 k ≡ false
+bit-zero k = bit-high 0 0 k (pow-pos 0) (omega arith)
+
+pub bits-none : (x n : ℕ) → x < 2 ^ n → ((k : ℕ) → k < n → bit x k ≡ false) → x ≡ 0
+unfolding bit
+bits-none x zero h none = omega arith
+bits-none x (suc n) h none =
+    let l : x < 2 * 2 ^ n = subst (λ (m : ℕ). x < m) (pow-suc 2 n ∙ mul-comm (2 ^ n) 2) h in
+    let two : x / 2 ^ n < 2 = div-lt-iff-lt-mul (pow-pos n) .1 l in
+    let even = eqb-false (x / 2 ^ n % 2) 1 (none n (le-refl (suc n))) in
+    let low : x / 2 ^ n < 1 = omega (arith, mod-eq-of-lt two) in
+    let m : x < 1 * 2 ^ n = div-lt-iff-lt-mul (pow-pos n) .0 low in
+    bits-none x n (omega arith) (λ k l. none k (le-step l))
 
 one-and : (a b : Bool) → bitAnd (one a) (one b) ≡ one (a && b)
 one-and true true = refl

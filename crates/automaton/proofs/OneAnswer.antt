@@ -2,7 +2,7 @@
 -- from the same old buffers, also in every byte of both buffers, served or refused.
 -- Assumes nothing.
 use Prim.Native.Nat.{ℕ, _+_}
-use mathlib.Core.Path.{_≡_, refl, sym, ap, _∙_, subst}
+use mathlib.Core.Path.{_≡_, refl, sym, ap, ap₂, _∙_, subst}
 use mathlib.Core.Bool.{Bool, true, false, cond}
 use mathlib.Core.List.{List}
 use mathlib.Core.Logic.{_↔_, ⊎-elim}
@@ -31,7 +31,7 @@ use Rattle.automaton.proofs.CountOfLaws.{one-refusal}
 use Rattle.automaton.proofs.OneAutomaton.{one-automaton}
 
 -- two tests that say whether the same holds are one
-same-test : {A : Type 0} (b c : Bool) → (b ≡ true) ↔ A → (c ≡ true) ↔ A → b ≡ c
+pub same-test : {A : Type 0} (b c : Bool) → (b ≡ true) ↔ A → (c ≡ true) ↔ A → b ≡ c
 same-test true c f g = sym (g .1 (f .0 refl))
 same-test false true f g = f .1 (g .0 refl)
 same-test false false f g = refl
@@ -58,7 +58,10 @@ module _ {i o : ℕ} {text letters : List ℕ} {r r′ : Trial} (x : Tried i o t
 
 module _ {i : ℕ} {text : List ℕ} {r r′ : Assumption} (x : Conditioned i text r) (y : Conditioned i text r′) where
   same-condition-refusal : x .refusal ≡ y .refusal
-  same-condition-refusal = x .first ∙ ap (conditionRefusal i text) (one-reading i 0 false text (x .read) (y .read)) ∙ sym (y .first)
+  same-condition-refusal =
+      x .first
+      ∙ ap₂ (conditionRefusal i text) (one-reading i 0 false text (x .read) (y .read)) (same-test (x .none) (y .none) (x .none-satisfies) (y .none-satisfies))
+      ∙ sym (y .first)
 
   -- two runs of the condition's call say the same: the mask, or the refusal with its place
   pub one-condition : r ≡ r′

@@ -1,5 +1,5 @@
 -- The condition (specification, "Texts" and "Game"), which the field calls the assumption: a formula over the inputs,
--- judged on one input number. The layer's call turns its text into a mask; its answer is the declared type `Assumption`, its order of refusals 1, 2, 7, 8.
+-- judged on one input number. The layer's call turns its text into a mask; its answer is the declared type `Assumption`, its order of refusals 1, 2, 7, 8, 15.
 -- Assumes nothing.
 use Prim.Native.Nat.{ℕ, _^_, _<_}
 use mathlib.Core.Path.{_≡_}
@@ -8,7 +8,7 @@ use mathlib.Core.List.{[], _∷_}
 use mathlib.Core.Logic.{_↔_}
 use Rattle.reader.specs.declared.reading.Reading.{Reading}
 use Rattle.reader.specs.declared.refusal.Refusal.{Refusal}
-use Rattle.reader.specs.declared.refusal.Refusal.the-variants.{Nothing, Alphabet, TextLength}
+use Rattle.reader.specs.declared.refusal.Refusal.the-variants.{Nothing, Alphabet, TextLength, Unsatisfiable}
 use Rattle.reader.specs.Text.{Text}
 use Rattle.reader.specs.Limits.{tooLong}
 use Rattle.reader.specs.Formula.{Formula}
@@ -31,9 +31,17 @@ maskOf κ i = ofBits (λ x. value κ 1 x 0) (2 ^ i)
 abbrev pub Judges : (κ : Formula) (i mask : ℕ) → Type 0
 Judges κ i mask = (x : ℕ) → x < 2 ^ i → (bit mask x ≡ true) ↔ Satisfies κ (x ∷ [])
 
--- the refusal that comes first, for a text with the reading ρ
-unfoldable pub conditionRefusal : (i : ℕ) (text : Text) (ρ : Reading) → Refusal
-conditionRefusal i text ρ = cond (badAlphabet i 0) Alphabet (cond (tooLong text) TextLength (afterCondition ρ Nothing))
+-- refusal 15: the text is a condition within its limits, and no input number satisfies it
+abbrev pub NoneSatisfies : (i : ℕ) (text : Text) → Type 0
+NoneSatisfies i text = (κ : Formula) × IsGood i (conditionKind i) text κ × ((x : ℕ) → x < 2 ^ i → Satisfies κ (x ∷ []) → ⊥)
+
+-- the condition's refusals, 7, 8 and 15, for a text with the reading κ, of which `none` tells whether no input number satisfies it
+abbrev pub afterAssumption : (κ : Reading) (none : Bool) (later : Refusal) → Refusal
+afterAssumption κ none later = afterCondition κ (cond none Unsatisfiable later)
+
+-- the refusal that comes first
+unfoldable pub conditionRefusal : (i : ℕ) (text : Text) (κ : Reading) (none : Bool) → Refusal
+conditionRefusal i text κ none = cond (badAlphabet i 0) Alphabet (cond (tooLong text) TextLength (afterAssumption κ none Nothing))
 
 -- the specification's number and place of every answer: none where the call is served
 abbrev pub assumptionNumber : Assumption → ℕ
@@ -55,8 +63,10 @@ pub record Masked (i : ℕ) (text : Text) (r : Assumption) : Type 0 where
 pub record Conditioned (i : ℕ) (text : Text) (r : Assumption) : Type 0 where
   pub reading : Reading
   pub read : ReadingOf i (conditionKind i) text reading
+  pub none : Bool
+  pub none-satisfies : (none ≡ true) ↔ NoneSatisfies i text
   pub refusal : Refusal
-  pub first : refusal ≡ conditionRefusal i text reading
+  pub first : refusal ≡ conditionRefusal i text reading none
   pub number : assumptionNumber r ≡ numberOf refusal
   pub place : assumptionPlace r ≡ placeOf refusal
   pub refused : (refusal ≡ Nothing → ⊥) → r ≡ Refused refusal

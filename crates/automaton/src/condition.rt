@@ -32,5 +32,9 @@ pub fn read_condition(i: usize, text: &[u8]) -> Assumption
     let Reading::Good(count) = reading else {
         return Assumption::Refused(text_refusal(Subject::Condition, reading));
     };
-    Assumption::Mask(condition_mask(&nodes, count, power(i)))
+    let mask = condition_mask(&nodes, count, power(i));
+    if mask == 0 {
+        return Assumption::Refused(Refusal::Unsatisfiable);
+    }
+    Assumption::Mask(mask)
 }

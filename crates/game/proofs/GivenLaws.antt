@@ -11,7 +11,7 @@ use lib.Pow.{pow-pos}
 use lib.Seq.{getD-take, length-take-le}
 use borrow.Author.Tests.{le-leb, lt-leb, leb-false, lt-ltb, le-ltb, ltb-false}
 use Rattle.reader.specs.declared.refusal.Refusal.{Refusal}
-use Rattle.reader.specs.declared.refusal.Refusal.the-variants.{Nothing, Alphabet, Buffer, GivenCount, Move, State, Value}
+use Rattle.reader.specs.declared.refusal.Refusal.the-variants.{Nothing, Alphabet, Buffer, GivenCount, Move, State, Value, Unsatisfiable}
 use Rattle.reader.specs.Refusal.{numberOf, placeOf}
 use Rattle.automaton.specs.Alphabet.{badAlphabet, firstOver}
 use Rattle.automaton.proofs.FirstOverLaws.{none-over, letter-at}
@@ -21,12 +21,12 @@ use Rattle.plays.specs.declared.mode.Mode.{Mode}
 use Rattle.plays.specs.Arena.{Arena, arena}
 use Rattle.game.specs.inner.Game.{Valid}
 use Rattle.game.specs.Tables.{Tables, Verdict}
-use Rattle.game.specs.Given.{badCount, moveCount, shortRead, shortStrategy, shortTables, badMask, laterRefusal, givenRefusal, Solved}
+use Rattle.game.specs.Given.{badCount, moveCount, shortRead, shortStrategy, shortTables, badMask, noneHolds, laterRefusal, givenRefusal, Solved}
 use Rattle.reader.proofs.BoolLaws.{or-left, or-right}
 use Rattle.game.proofs.AnswerLaws.{verdict-number, verdict-place}
 use Rattle.game.proofs.CheckLaws.{in-range, transitions-long, accepting-long}
 
--- the test that decides, in the order 3, 12, 11, 13
+-- the test that decides, in the order 3, 12, 11, 13, 15
 module _ (start : ℕ) (G : Arena) (σ τ : List ℕ) where
   pub read-refused : shortRead G ≡ true → Buffer (G .states) ≡ laterRefusal start G σ τ
   unfolding laterRefusal
@@ -56,9 +56,14 @@ module _ (start : ℕ) (G : Arena) (σ τ : List ℕ) where
           unfolding laterRefusal
           mask-refused e = rw (a, b, lt-leb (G .states) start c, share, ← is, le-ltb k (moveCount G) d, e)
 
-          pub none-refused : badMask G ≡ false → Nothing ≡ laterRefusal start G σ τ
-          unfolding laterRefusal
-          none-refused e = rw (a, b, lt-leb (G .states) start c, share, ← is, le-ltb k (moveCount G) d, e)
+          module _ (e : badMask G ≡ false) where
+            pub unmet-refused : noneHolds G ≡ true → Unsatisfiable ≡ laterRefusal start G σ τ
+            unfolding laterRefusal
+            unmet-refused f = rw (a, b, lt-leb (G .states) start c, share, ← is, le-ltb k (moveCount G) d, e, f)
+
+            pub none-refused : noneHolds G ≡ false → Nothing ≡ laterRefusal start G σ τ
+            unfolding laterRefusal
+            none-refused f = rw (a, b, lt-leb (G .states) start c, share, ← is, le-ltb k (moveCount G) d, e, f)
 
 -- the tests before them, 1 and 10
 module _ (i o start : ℕ) (G : Arena) (σ τ : List ℕ) where
@@ -95,6 +100,7 @@ record Later (start : ℕ) (G : Arena) (σ τ : List ℕ) : Type 0 where
   pub tables : shortTables G σ τ ≡ false
   pub start-fits : start < G .states
   pub closed : (k : ℕ) → k < moveCount G → getD (G .transitions) k 0 < G .states
+  pub some-holds : noneHolds G ≡ false
 
 later-accepted : (start : ℕ) (G : Arena) (σ τ : List ℕ) → laterRefusal start G σ τ ≡ Nothing → Later start G σ τ
 unfolding laterRefusal
@@ -103,6 +109,8 @@ later-accepted start G σ τ e =
     let short = passed (shortRead G || shortTables G σ τ) (Buffer (G .states)) _ (omega arith) e in
     let state = passed (leb (G .states) start) State _ (omega arith) (short .1) in
     let move = passed (ltb (firstOver (G .states) T) (length T)) (Move (firstOver (G .states) T)) _ (omega arith) (state .1) in
+    let mask = passed (badMask G) (Value 0) _ (omega arith) (move .1) in
+    let unmet = passed (noneHolds G) Unsatisfiable _ (omega arith) (mask .1) in
     let read = or-left (shortRead G) (shortTables G σ τ) (short .0) in
     let share : length T ≡ moveCount G = length-take-le (moveCount G) (G .transitions) (transitions-long G read) in
     record {
@@ -112,7 +120,16 @@ later-accepted start G σ τ e =
       closed = λ k h. subst (λ (v : ℕ). v < G .states) (getD-take (moveCount G) (G .transitions) k 0 h)
           (letter-at (G .states) T (none-over (G .states) T
           (ltb-false (firstOver (G .states) T) (length T) (move .0))) k (let q : k < length T = omega arith in q));
+      some-holds = unmet .0;
     }
+
+-- some input has the condition
+pub met : (i o start : ℕ) (G : Arena) (σ τ : List ℕ) → givenRefusal i o start G σ τ ≡ Nothing → noneHolds G ≡ false
+unfolding givenRefusal
+met i o start G σ τ e =
+    let alphabet = passed (badAlphabet i o) Alphabet _ (omega arith) e in
+    let count = passed (badCount (G .states)) GivenCount _ (omega arith) (alphabet .1) in
+    later-accepted start G σ τ (count .1) .some-holds
 
 pub accepted : (i o start n : ℕ) (transitions flags : List ℕ) (mask : ℕ) (σ τ : List ℕ)
     → givenRefusal i o start (arena i o n transitions flags mask) σ τ ≡ Nothing

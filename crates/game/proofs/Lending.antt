@@ -2,20 +2,18 @@
 -- that has room for the n states that were told is served, with this n.
 -- Assumes nothing.
 use Prim.Native.Nat.{ℕ, _<_}
-use mathlib.Core.Path.{_≡_, refl, sym, ap, ap₂, _∙_, subst}
+use mathlib.Core.Path.{_≡_, refl, sym, ap, _∙_, subst}
 use mathlib.Core.Bool.{Bool, true, false, cond}
 use mathlib.Core.List.{List, []}
 use mathlib.Core.Logic.{⊎-elim}
 use native.Mathlib.Omega.{arith}
 use lib.Dec.{ltb}
 use borrow.Author.Tests.{lt-ltb}
-use Rattle.reader.specs.declared.reading.Reading.{Reading}
 use Rattle.reader.specs.declared.refusal.Refusal.{Refusal}
 use Rattle.reader.specs.declared.refusal.Refusal.the-variants.{Nothing, Buffer, StateCount}
 use Rattle.reader.specs.Refusal.{numberOf, isNothing}
 use Rattle.reader.proofs.BoolLaws.{clash, or-true}
 use Rattle.reader.proofs.RefusalLaws.{differs, something, refused-or-served, no-number}
-use Rattle.reader.proofs.Unambiguous.{one-reading}
 use Rattle.automaton.specs.Limits.{stateLimit}
 use Rattle.game.specs.declared.answer.Answer.{Answer}
 use Rattle.game.specs.declared.answer.Answer.the-variants.{Refused}
@@ -24,7 +22,7 @@ use Rattle.plays.specs.declared.mode.Mode.{Mode}
 use Rattle.game.specs.Rule.{Buffers, buffers, shortBuffers, ruleRefusal, RuleSolved}
 use Rattle.game.proofs.FirstRefusal.{early-number, First, early, by-size, comes-first, first-served}
 use Rattle.game.proofs.RuleLaws.{some-state}
-use Rattle.game.proofs.OneAnswer.{one-count}
+use Rattle.game.proofs.OneAnswer.{same-first}
 
 -- a refusal by 3 told the number of states, which is within the limit
 size-told : (b c : Bool) (s n : ℕ) → Buffer n ≡ cond b StateCount (cond c (Buffer s) Nothing) → (b ≡ false) × (n ≡ s)
@@ -45,23 +43,19 @@ module _ {mode mode′ : Mode} {i o : ℕ} {rule condition : List ℕ} {old old�
     (x : RuleSolved mode i o rule condition old new (Refused (Buffer n))) (y : RuleSolved mode′ i o rule condition old′ new′ r)
     (room : shortBuffers i o n old′ ≡ false) where
   -- what comes first in the second call, by the readings and the states of the first
-  second-first : y .refusal ≡ ruleRefusal i o rule condition old′ (x .reading) (x .condition-reading) (x .states)
-  second-first =
-      y .first
-      ∙ ap₂ (λ (p q : Reading). ruleRefusal i o rule condition old′ p q (y .states)) (one-reading i o true rule (y .read) (x .read))
-      (one-reading i 0 false condition (y .condition-read) (x .condition-read))
-      ∙ one-count i o rule condition old′ (x .reading) (x .condition-reading) (y .states) (x .states) (x .read) (y .counted) (x .counted)
+  second-first : y .refusal ≡ ruleRefusal i o rule condition old′ (x .reading) (x .condition-reading) (x .none) (x .states)
+  second-first = y .first ∙ same-first old′ y x
 
-  first-told : Buffer n ≡ ruleRefusal i o rule condition old (x .reading) (x .condition-reading) (x .states)
+  first-told : Buffer n ≡ ruleRefusal i o rule condition old (x .reading) (x .condition-reading) (x .none) (x .states)
   first-told = sym (told-refusal refl x) ∙ x .first
 
   -- the first call told the rule's number of states, and the second is not refused
   second-served : (n ≡ x .states) × (y .refusal ≡ Nothing)
-  second-served = go (comes-first i o rule condition (x .reading) (x .condition-reading))
+  second-served = go (comes-first i o rule condition (x .reading) (x .condition-reading) (x .none))
     where
-      go : First i o rule condition (x .reading) (x .condition-reading) → (n ≡ x .states) × (y .refusal ≡ Nothing)
+      go : First i o rule condition (x .reading) (x .condition-reading) (x .none) → (n ≡ x .states) × (y .refusal ≡ Nothing)
       go (early z h same) = absurd (early-number h .1 (ap numberOf (sym (first-told ∙ same old (x .states)))))
-      go (by-size a same) =
+      go (by-size a some same) =
           let t = size-told (ltb stateLimit (x .states)) (shortBuffers i o (x .states) old) (x .states) n (first-told ∙ same old (x .states)) in
           let long : shortBuffers i o (x .states) old′ ≡ false = subst (λ (k : ℕ). shortBuffers i o k old′ ≡ false) (t .1) room in
           (t .1, second-first ∙ same old′ (x .states) ∙ rw (t .0, long))
@@ -81,5 +75,6 @@ nothing-lent {mode} {i} {o} {rule} {condition} {new} {r} m e =
     let z : m .refusal ≡ Nothing = no-number (m .refusal) (sym (m .number) ∙ e) in
     let some : 0 < m .states = some-state (m .served z .2 .automaton) in
     let short : shortBuffers i o (m .states) (buffers [] [] [] []) ≡ true = rw (lt-ltb 0 (m .states) some, or-true) in
-    let long = first-served i o rule condition (buffers [] [] [] []) (m .reading) (m .condition-reading) (m .states) (ap numberOf (sym (m .first) ∙ z)) in
-    clash (shortBuffers i o (m .states) (buffers [] [] [] [])) short (long .2)
+    let long =
+    first-served i o rule condition (buffers [] [] [] []) (m .reading) (m .condition-reading) (m .none) (m .states) (ap numberOf (sym (m .first) ∙ z)) in
+    clash (shortBuffers i o (m .states) (buffers [] [] [] [])) short (long .3)

@@ -21,6 +21,7 @@ pub mod EntryFilled
 pub mod StrategyLaws
 pub mod CheckLaws
 pub mod RefusalLaws
+pub mod MetLaws
 pub mod GivenLaws
 pub mod FollowLaws
 pub mod FirstRefusal

@@ -3,7 +3,7 @@
 -- Assumes nothing.
 use Prim.Native.Nat.{ℕ, _+_, _*_, _/_, _%_, _<_}
 use mathlib.Core.Path.{_≡_, refl, sym, ap, ap₂, _∙_, subst}
-use mathlib.Core.Bool.{true, false, cond, _||_}
+use mathlib.Core.Bool.{Bool, true, false, cond, _||_}
 use mathlib.Core.List.{List}
 use mathlib.Core.Logic.{_⊎_, ⊎-elim}
 use native.Mathlib.Nat.{mod-lt, div-add-mod', div-lt-iff-lt-mul}
@@ -16,15 +16,15 @@ use Rattle.reader.specs.Limits.{tooLong}
 use Rattle.reader.specs.Formula.{Formula}
 use Rattle.reader.specs.Marks.{ruleKind}
 use Rattle.reader.specs.Reading.{ReadingOf}
-use Rattle.reader.specs.Refusal.{afterCondition}
 use Rattle.reader.proofs.RefusalLaws.{something, refused-or-served}
 use Rattle.reader.proofs.Unambiguous.{one-formula, one-reading}
 use Rattle.automaton.specs.Alphabet.{badAlphabet, letterCount}
 use Rattle.automaton.specs.Construction.{CountOf}
-use Rattle.automaton.specs.Condition.{maskOf}
+use Rattle.automaton.specs.Condition.{maskOf, afterAssumption}
 use Rattle.automaton.proofs.BufferLaws.{one-buffer}
 use Rattle.automaton.proofs.CountOfLaws.{one-refusal}
 use Rattle.automaton.proofs.OneAutomaton.{one-automaton}
+use Rattle.automaton.proofs.OneAnswer.{same-test}
 use Rattle.plays.specs.declared.mode.Mode.{Mode}
 use Rattle.plays.specs.Arena.{Arena, arena}
 use Rattle.plays.specs.Strategy.{systemByte, environmentByte}
@@ -143,23 +143,29 @@ one-given i o x y = given-agrees i o x y
 -- ---- the rule call
 
 -- the rule's number of states is one, so the refusal is
-pub one-count : (i o : ℕ) (rule condition : List ℕ) (old : Buffers) (ρ κ : Reading) (n m : ℕ) → ReadingOf i (ruleKind i o) rule ρ
-    → CountOf i o rule n → CountOf i o rule m → ruleRefusal i o rule condition old ρ κ n ≡ ruleRefusal i o rule condition old ρ κ m
+one-count : (i o : ℕ) (rule condition : List ℕ) (old : Buffers) (ρ κ : Reading) (none : Bool) (n m : ℕ) → ReadingOf i (ruleKind i o) rule ρ
+    → CountOf i o rule n → CountOf i o rule m → ruleRefusal i o rule condition old ρ κ none n ≡ ruleRefusal i o rule condition old ρ κ none m
 unfolding ruleRefusal
-one-count i o rule condition old ρ κ n m r c d =
+one-count i o rule condition old ρ κ none n m r c d =
     ap (λ (x : Refusal). cond (badAlphabet i o) Alphabet (cond (tooLong rule || tooLong condition) TextLength x))
-    (one-refusal i o rule (λ k. afterCondition κ (sizeRefusal i o old k)) ρ n m r c d)
+    (one-refusal i o rule (λ k. afterAssumption κ none (sizeRefusal i o old k)) ρ n m r c d)
+
+-- by what two calls on the same texts tell of these, any buffers have one refusal
+pub same-first : {mode mode′ : Mode} {i o : ℕ} {rule condition : List ℕ} {old old′ new new′ : Buffers} {r r′ : Answer} (lent : Buffers)
+    (x : RuleSolved mode i o rule condition old new r) (y : RuleSolved mode′ i o rule condition old′ new′ r′)
+    → ruleRefusal i o rule condition lent (x .reading) (x .condition-reading) (x .none) (x .states)
+    ≡ ruleRefusal i o rule condition lent (y .reading) (y .condition-reading) (y .none) (y .states)
+same-first {i = i} {o} {rule} {condition} lent x y =
+    ap₂ (λ (p q : Reading). ruleRefusal i o rule condition lent p q (x .none) (x .states)) (one-reading i o true rule (x .read) (y .read))
+    (one-reading i 0 false condition (x .condition-read) (y .condition-read))
+    ∙ ap (λ (b : Bool). ruleRefusal i o rule condition lent (y .reading) (y .condition-reading) b (x .states))
+    (same-test (x .none) (y .none) (x .none-satisfies) (y .none-satisfies))
+    ∙ one-count i o rule condition lent (y .reading) (y .condition-reading) (y .none) (x .states) (y .states) (y .read) (x .counted) (y .counted)
 
 module _ {mode : Mode} {i o : ℕ} {rule condition : List ℕ} {old new new′ : Buffers} {r r′ : Answer}
     (x : RuleSolved mode i o rule condition old new r) (y : RuleSolved mode i o rule condition old new′ r′) where
   same-refusal : x .refusal ≡ y .refusal
-  same-refusal =
-      let ρ = one-reading i o true rule (x .read) (y .read) in
-      let κ = one-reading i 0 false condition (x .condition-read) (y .condition-read) in
-      x .first
-      ∙ ap₂ (λ (p q : Reading). ruleRefusal i o rule condition old p q (x .states)) ρ κ
-      ∙ one-count i o rule condition old (y .reading) (y .condition-reading) (x .states) (y .states) (y .read) (x .counted) (y .counted)
-      ∙ sym (y .first)
+  same-refusal = x .first ∙ same-first old x y ∙ sym (y .first)
 
   -- the arena of the first run's automaton
   abbrev of : ℕ → Formula → Arena

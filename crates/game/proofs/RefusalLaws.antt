@@ -29,8 +29,8 @@ none-zero k (l ∷ ks) p (_⊎_.inr h) = none-zero l ks (and-true (not (eqb k 0)
 
 -- the numbers of all cases but the first
 abbrev pub refusals : List ℕ
-refusals = 1 ∷ 2 ∷ 3 ∷ 4 ∷ 5 ∷ 6 ∷ 7 ∷ 8 ∷ 9 ∷ 10 ∷ 11 ∷ 12 ∷ 13 ∷ []
+refusals = 1 ∷ 2 ∷ 3 ∷ 4 ∷ 5 ∷ 6 ∷ 7 ∷ 8 ∷ 9 ∷ 10 ∷ 11 ∷ 12 ∷ 13 ∷ 14 ∷ []
 
 -- a refusal of another case than the first is not `Nothing`
 pub is-refused : (r : Refusal) → OneOf refusals (tagOf the-type r) → r ≡ Nothing → ⊥
-is-refused r h e = none-zero 1 (2 ∷ 3 ∷ 4 ∷ 5 ∷ 6 ∷ 7 ∷ 8 ∷ 9 ∷ 10 ∷ 11 ∷ 12 ∷ 13 ∷ []) refl (subst (λ (x : Refusal). OneOf refusals (tagOf the-type x)) e h)
+is-refused r h e = none-zero 1 (2 ∷ 3 ∷ 4 ∷ 5 ∷ 6 ∷ 7 ∷ 8 ∷ 9 ∷ 10 ∷ 11 ∷ 12 ∷ 13 ∷ 14 ∷ []) refl (subst (λ (x : Refusal). OneOf refusals (tagOf the-type x)) e h)

@@ -44,6 +44,8 @@ refused-early mode i o rule condition old x mask ne c =
       read = c .read;
       condition-reading = c .condition-reading;
       condition-read = c .condition-read;
+      none = c .none;
+      none-satisfies = c .none-satisfies;
       states = n .0;
       counted = n .1;
       refusal = x;
@@ -84,13 +86,13 @@ either-way false b = sym (or-false b)
 -- the tests were passed, and the construction was asked with the room that the tables have
 module _ (mode : Mode) (i o : ℕ) (rule condition : List ℕ) (old : Buffers) (mask : ℕ) (check : RuleChecked i o rule condition Nothing mask)
     (room : ℕ) (tables-room : (n : ℕ) → ltb room n ≡ (ltb (length (old .system)) (n * 2 ^ i) || ltb (length (old .environment)) n)) (t a : List ℕ) where
-  abbrev pass : TestsPassed i o rule condition (check .reading) (check .condition-reading) mask
+  abbrev pass : TestsPassed i o rule condition (check .reading) (check .condition-reading) (check .none) mask
   pass = check .passed refl
 
   -- the two refusals agree from here on: they go by the number of states
-  rule-counts : (n : ℕ) → ruleRefusal i o rule condition old (check .reading) (check .condition-reading) n ≡ sizeRefusal i o old n
+  rule-counts : (n : ℕ) → ruleRefusal i o rule condition old (check .reading) (check .condition-reading) (check .none) n ≡ sizeRefusal i o old n
   unfolding ruleRefusal
-  rule-counts n = rw (pass .alphabet, pass .rule-fits, pass .condition-fits, pass .rule-good, pass .condition-good)
+  rule-counts n = rw (pass .alphabet, pass .rule-fits, pass .condition-fits, pass .rule-good, pass .condition-good, pass .some)
 
   same-short : (n : ℕ) → (ltb room n || shortAutomaton (letterCount i o) n (old .transitions) (old .accepting)) ≡ shortBuffers i o n old
   same-short n =
@@ -110,7 +112,7 @@ module _ (mode : Mode) (i o : ℕ) (rule condition : List ℕ) (old : Buffers) (
         let n = made .states in
         construction-counts ∙ ap (λ (b : Bool). cond (ltb stateLimit n) StateCount (cond b (Buffer n) Nothing)) (same-short n)
 
-    agrees : made .refusal ≡ ruleRefusal i o rule condition old (check .reading) (check .condition-reading) (made .states)
+    agrees : made .refusal ≡ ruleRefusal i o rule condition old (check .reading) (check .condition-reading) (check .none) (made .states)
     agrees = counts ∙ sym (rule-counts (made .states))
 
   -- 9 or 3: every buffer is as it was
@@ -124,6 +126,8 @@ module _ (mode : Mode) (i o : ℕ) (rule condition : List ℕ) (old : Buffers) (
         read = check .read;
         condition-reading = check .condition-reading;
         condition-read = check .condition-read;
+        none = check .none;
+        none-satisfies = check .none-satisfies;
         states = made .states;
         counted = made .counted;
         refusal = y;
@@ -197,11 +201,13 @@ module _ (mode : Mode) (i o : ℕ) (rule condition : List ℕ) (old : Buffers) (
           read = check .read;
           condition-reading = check .condition-reading;
           condition-read = check .condition-read;
+          none = check .none;
+          none-satisfies = check .none-satisfies;
           states = n;
           counted = subst (λ (m : ℕ). Rattle.automaton.specs.Construction.CountOf i o rule m) (sym (is-served .1)) (made .counted);
           refusal = Nothing;
           first = sym (is-served .0) ∙ agrees (Built n) made
-              ∙ ap (ruleRefusal i o rule condition old (check .reading) (check .condition-reading)) (sym (is-served .1));
+              ∙ ap (ruleRefusal i o rule condition old (check .reading) (check .condition-reading) (check .none)) (sym (is-served .1));
           number = verdict-number n r;
           place = verdict-place n r;
           served = λ _. (

@@ -17,7 +17,7 @@ use Rattle.plays.specs.Play.{Step, letters}
 use Rattle.game.specs.Rule.{Buffers}
 use Rattle.plays.specs.Strategy.{Table}
 use Rattle.plays.specs.Round.{Reaching}
-use Rattle.plays.specs.Endless.{CanEndless, CannotEndless}
+use Rattle.plays.specs.Endless.{Able, CanEndless, CannotEndless}
 
 -- a beginning satisfies the rule
 abbrev pub Satisfying : Formula → Arena → List Step → Type 0
@@ -35,18 +35,21 @@ pub record Texts (i o : ℕ) (rule condition : Text) : Type 0 where
 abbrev pub arenaLeft : (i o n : ℕ) (new : Buffers) (κ : Formula) → Arena
 arenaLeft i o n new κ = arena i o n (new .transitions) (new .accepting) (maskOf κ i)
 
--- the rule call's answer: on "can", by the step that its round number says, and on "cannot", in terms of beginnings that satisfy the rule
+-- the rule call's answer: on "can", by the step that its round number says, and on "cannot", in terms of beginnings that satisfy the rule; and on both that the
+-- environment can keep its promise
 abbrev pub RuleEndless : (mode : Mode) (i o : ℕ) (rule condition : Text) (new : Buffers) (r : Answer) → Type 0
 RuleEndless mode i o rule condition new (Can n k) =
     (t : Texts i o rule condition)
+    × Able mode (arenaLeft i o n new (t .assumption))
     × CanEndless mode (arenaLeft i o n new (t .assumption)) k (new .system) 0 (Satisfying (t .formula) (arenaLeft i o n new (t .assumption)))
 RuleEndless mode i o rule condition new (Cannot n) =
     (t : Texts i o rule condition)
+    × Able mode (arenaLeft i o n new (t .assumption))
     × CannotEndless mode (arenaLeft i o n new (t .assumption)) (new .environment) 0 (Satisfying (t .formula) (arenaLeft i o n new (t .assumption)))
 RuleEndless mode i o rule condition new (Refused x) = Unit {0}
 
 -- the answer for a given automaton, in terms of goals entered
 abbrev pub GivenEndless : (mode : Mode) (G : Arena) (σ τ : Table) (start : State) (r : Answer) → Type 0
-GivenEndless mode G σ τ start (Can n k) = CanEndless mode G k σ start (Reaching G start)
-GivenEndless mode G σ τ start (Cannot n) = CannotEndless mode G τ start (Reaching G start)
+GivenEndless mode G σ τ start (Can n k) = Able mode G × CanEndless mode G k σ start (Reaching G start)
+GivenEndless mode G σ τ start (Cannot n) = Able mode G × CannotEndless mode G τ start (Reaching G start)
 GivenEndless mode G σ τ start (Refused x) = Unit {0}

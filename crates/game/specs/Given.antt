@@ -1,13 +1,13 @@
 -- The call for a given automaton (specification, "Calls" and "Refusals").
--- Its answer is the declared type `Answer`; its order of refusals is 1, 10, 3, 12, 11, 13.
+-- Its answer is the declared type `Answer`; its order of refusals is 1, 10, 3, 12, 11, 13, 15.
 -- Assumes nothing.
-use Prim.Native.Nat.{ℕ, _*_, _/_, _^_}
+use Prim.Native.Nat.{ℕ, zero, suc, _*_, _/_, _^_}
 use mathlib.Core.Path.{_≡_}
-use mathlib.Core.Bool.{Bool, not, cond, _||_}
+use mathlib.Core.Bool.{Bool, true, not, cond, _||_, _&&_}
 use lib.Dec.{eqb, ltb, leb}
 use lib.ListN.{length, take}
 use Rattle.reader.specs.declared.refusal.Refusal.{Refusal}
-use Rattle.reader.specs.declared.refusal.Refusal.the-variants.{Nothing, Alphabet, Buffer, GivenCount, Move, State, Value}
+use Rattle.reader.specs.declared.refusal.Refusal.the-variants.{Nothing, Alphabet, Buffer, GivenCount, Move, State, Value, Unsatisfiable}
 use Rattle.reader.specs.Refusal.{numberOf, placeOf}
 use Rattle.automaton.specs.Limits.{stateLimit}
 use Rattle.automaton.specs.Alphabet.{badAlphabet, afterList}
@@ -15,7 +15,7 @@ use Rattle.game.specs.declared.answer.Answer.{Answer}
 use Rattle.game.specs.declared.answer.Answer.the-variants.{Refused}
 use Rattle.game.specs.Answer.{answerNumber, answerPlace, verdictOf}
 use Rattle.plays.specs.declared.mode.Mode.{Mode}
-use Rattle.plays.specs.Arena.{Arena}
+use Rattle.plays.specs.Arena.{Arena, holds}
 use Rattle.plays.specs.Strategy.{Table}
 use Rattle.game.specs.Tables.{Tables, Verdict}
 
@@ -43,13 +43,23 @@ shortTables G σ τ = shortStrategy G σ || ltb (length τ) (G .states)
 abbrev pub badMask : Arena → Bool
 badMask G = not (eqb (G .mask / 2 ^ G .inputs) 0)
 
--- the later refusals, once the numbers i, o and n are in range: 3, 12, 11, 13
+-- no number below n passes c
+unfoldable pub noneBelow : (c : ℕ → Bool) (n : ℕ) → Bool
+noneBelow c zero = true
+noneBelow c (suc n) = not (c n) && noneBelow c n
+
+-- refusal 15: no input number has the condition
+abbrev pub noneHolds : Arena → Bool
+noneHolds G = noneBelow (holds G) (G .inputs)
+
+-- the later refusals, once the numbers i, o and n are in range: 3, 12, 11, 13, 15
 unfoldable pub laterRefusal : (start : ℕ) (G : Arena) (σ τ : Table) → Refusal
 laterRefusal start G σ τ =
     cond (shortRead G || shortTables G σ τ) (Buffer (G .states))
     (cond (leb (G .states) start) State
     (afterList (G .states) (take (moveCount G) (G .transitions)) Move
-    (cond (badMask G) (Value 0) Nothing)))
+    (cond (badMask G) (Value 0)
+    (cond (noneHolds G) Unsatisfiable Nothing))))
 
 -- the refusal that comes first
 unfoldable pub givenRefusal : (i o start : ℕ) (G : Arena) (σ τ : Table) → Refusal

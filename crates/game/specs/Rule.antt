@@ -1,9 +1,11 @@
--- The rule call (specification, "Calls"): demands 1, 2 and 3 for a rule. Its answer is the declared type `Answer`; its order of refusals is 1, 2, 4 to 9, 3.
+-- The rule call (specification, "Calls"): demands 1, 2 and 3 for a rule. Its answer is the declared type `Answer`; its order of refusals is 1, 2, 4 to 8,
+-- 15, 9, 3.
 -- Assumes nothing.
 use Prim.Native.Nat.{ℕ, _*_, _^_, _<_, _≤_}
 use mathlib.Core.Path.{_≡_}
-use mathlib.Core.Bool.{Bool, cond, _||_}
+use mathlib.Core.Bool.{Bool, true, cond, _||_}
 use mathlib.Core.List.{List}
+use mathlib.Core.Logic.{_↔_}
 use lib.Dec.{ltb}
 use lib.ListN.{length, take}
 use Rattle.reader.specs.Text.{Text}
@@ -14,14 +16,14 @@ use Rattle.reader.specs.Limits.{tooLong}
 use Rattle.reader.specs.Formula.{Formula}
 use Rattle.reader.specs.Marks.{ruleKind, conditionKind}
 use Rattle.reader.specs.Reading.{ReadingOf, IsGood}
-use Rattle.reader.specs.Refusal.{numberOf, placeOf, afterRule, afterCondition}
+use Rattle.reader.specs.Refusal.{numberOf, placeOf, afterRule}
 use Rattle.automaton.specs.Limits.{stateLimit}
 use Rattle.automaton.specs.Alphabet.{badAlphabet, letterCount}
 use Rattle.automaton.specs.Trace.{Satisfies}
 use Rattle.automaton.specs.Automaton.{Automaton}
 use Rattle.automaton.specs.Buffer.{Kept}
 use Rattle.automaton.specs.Construction.{CountOf, shortAutomaton, Over}
-use Rattle.automaton.specs.Condition.{maskOf, Judges}
+use Rattle.automaton.specs.Condition.{maskOf, Judges, NoneSatisfies, afterAssumption}
 use Rattle.game.specs.declared.answer.Answer.{Answer}
 use Rattle.game.specs.declared.answer.Answer.the-variants.{Refused}
 use Rattle.game.specs.Answer.{answerNumber, answerPlace, verdictOf}
@@ -70,13 +72,14 @@ shortBuffers i o n old =
 abbrev pub sizeRefusal : (i o : ℕ) (old : Buffers) (n : ℕ) → Refusal
 sizeRefusal i o old n = cond (ltb stateLimit n) StateCount (cond (shortBuffers i o n old) (Buffer n) Nothing)
 
--- the refusal that comes first, for texts with the readings ρ and κ and a rule with n states
-unfoldable pub ruleRefusal : (i o : ℕ) (rule condition : Text) (old : Buffers) (ρ κ : Reading) (n : ℕ) → Refusal
-ruleRefusal i o rule condition old ρ κ n =
+-- the refusal that comes first, for texts with the readings ρ and κ, a condition of which `none` tells whether no input number satisfies it, and a rule
+-- with n states
+unfoldable pub ruleRefusal : (i o : ℕ) (rule condition : Text) (old : Buffers) (ρ κ : Reading) (none : Bool) (n : ℕ) → Refusal
+ruleRefusal i o rule condition old ρ κ none n =
     cond (badAlphabet i o) Alphabet
     (cond (tooLong rule || tooLong condition) TextLength
     (afterRule ρ
-    (afterCondition κ
+    (afterAssumption κ none
     (sizeRefusal i o old n))))
 
 -- a served call: the formulas of the two texts, the automaton, both tables, the verdict with its round number r and what it promises
@@ -103,10 +106,12 @@ pub record RuleSolved (mode : Mode) (i o : ℕ) (rule condition : Text) (old new
   pub read : ReadingOf i (ruleKind i o) rule reading
   pub condition-reading : Reading
   pub condition-read : ReadingOf i (conditionKind i) condition condition-reading
+  pub none : Bool
+  pub none-satisfies : (none ≡ true) ↔ NoneSatisfies i condition
   pub states : ℕ
   pub counted : CountOf i o rule states
   pub refusal : Refusal
-  pub first : refusal ≡ ruleRefusal i o rule condition old reading condition-reading states
+  pub first : refusal ≡ ruleRefusal i o rule condition old reading condition-reading none states
   pub number : answerNumber r ≡ numberOf refusal
   pub place : answerPlace r ≡ placeOf refusal
   pub served : refusal ≡ Nothing → (round : ℕ) × (r ≡ verdictOf states round) × RuleServed mode i o rule condition old new states round

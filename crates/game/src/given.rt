@@ -77,6 +77,9 @@ fn later_refusal(
     if bad_mask(mask, inputs) {
         return Refusal::Value(0);
     }
+    if mask == 0 {
+        return Refusal::Unsatisfiable;
+    }
     Refusal::Nothing
 }
 

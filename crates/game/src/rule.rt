@@ -69,7 +69,7 @@ fn check_texts(i: usize, o: usize, rule: &[u8], condition: &[u8]) -> Checked
     }
 }
 
-// The refusals before the states are counted, 1, 2 and 4 to 8, in their order, or the condition's mask.
+// The refusals before the states are counted, 1, 2, 4 to 8 and 15, in their order, or the condition's mask.
 fn check_rule(i: usize, o: usize, rule: &[u8], condition: &[u8]) -> Checked
     ensures { λ r. ⌜ RuleChecked i o (now (rule .entry)) (now (condition .entry)) (r .refusal) (r .mask) ⌝ }
 {

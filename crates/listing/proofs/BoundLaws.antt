@@ -2,7 +2,6 @@
 -- Assumes nothing.
 use Prim.Native.Nat.{ℕ, zero, suc, _^_, _≤_, _<_}
 use mathlib.Core.Path.{_≡_, sym, ap, subst, _∙_}
-use mathlib.Core.Bool.{false}
 use mathlib.Core.Logic.{⊎-elim}
 use mathlib.Core.List.{List}
 use native.Mathlib.Nat.{min-eq-left}
@@ -17,30 +16,29 @@ use Rattle.reader.specs.declared.reading.Reading.{Reading}
 use Rattle.reader.specs.declared.reading.Reading.the-variants.{Bad}
 use Rattle.reader.specs.declared.refusal.Refusal.{Refusal}
 use Rattle.reader.specs.declared.refusal.Refusal.the-variants.{Nothing, Alphabet, TextLength, Buffer, RuleText, RuleNodes, RuleOperators}
-use Rattle.reader.specs.declared.refusal.Refusal.the-variants.{ConditionText, ConditionNodes, StateCount, GivenCount, Move, State, Value}
+use Rattle.reader.specs.declared.refusal.Refusal.the-variants.{ConditionText, ConditionNodes, StateCount, GivenCount, Move, State, Value, Unsatisfiable}
 use Rattle.reader.specs.declared.marks.Kind.{Kind}
 use Rattle.reader.specs.Limits.{textLimit}
 use Rattle.reader.specs.Reading.{ReadingOf}
 use Rattle.reader.specs.Refusal.{numberOf, placeOf}
 use Rattle.reader.proofs.BoolLaws.{or-left, or-right}
-use Rattle.automaton.specs.Alphabet.{badAlphabet}
-use Rattle.automaton.specs.Limits.{stateLimit, numberLimit}
+use Rattle.automaton.specs.Limits.{numberLimit}
 use Rattle.automaton.specs.Condition.{maskOf}
 use Rattle.plays.specs.Arena.{arena}
 use Rattle.plays.proofs.RoundLaws.{round-bound}
 use Rattle.game.specs.declared.answer.Answer.{Answer}
 use Rattle.game.specs.Answer.{verdictOf}
-use Rattle.game.specs.Rule.{Buffers, shortBuffers, RuleServed, RuleSolved}
+use Rattle.game.specs.Rule.{Buffers, RuleServed, RuleSolved}
 use Rattle.game.proofs.AnswerLaws.{verdict-can}
-use Rattle.game.proofs.FirstRefusal.{Early, first-has, first-served}
-use Rattle.game.proofs.FirstRefusal.{alphabet, text-length, rule-text, rule-nodes, rule-operators, condition-text, condition-nodes}
+use Rattle.game.proofs.FirstRefusal.{Early, first-has, Served, first-served}
+use Rattle.game.proofs.FirstRefusal.{alphabet, text-length, rule-text, rule-nodes, rule-operators, condition-text, condition-nodes, unsatisfiable}
 use Rattle.game.proofs.RuleLaws.{some-state}
 use Rattle.listing.specs.Listing.{listing, stateLine, canWord, cannotWord}
 use Rattle.listing.specs.Promise.{outputSize, Prints, Listed}
 use Rattle.listing.proofs.LengthLaws.{system-length, environment-length, line-length, verdict-length, refusal-length}
 use Rattle.listing.proofs.PromiseLaws.{served-or-refused}
 
-number-small : (x : Refusal) → numberOf x ≤ 14
+number-small : (x : Refusal) → numberOf x ≤ 15
 number-small Nothing = omega arith
 number-small Alphabet = omega arith
 number-small TextLength = omega arith
@@ -55,6 +53,7 @@ number-small GivenCount = omega arith
 number-small (Move k) = omega arith
 number-small State = omega arith
 number-small (Value k) = omega arith
+number-small Unsatisfiable = omega arith
 
 -- the place of a bad text
 place-within : (i : ℕ) (kind : ℕ → Kind) (text : List ℕ) (ρ : Reading) → ReadingOf i kind text ρ → (k : ℕ) → ρ ≡ Bad k → k ≤ textLimit
@@ -72,16 +71,17 @@ module _ {mode : Mode} {i o : ℕ} {rule condition : List ℕ} {old new : Buffer
   early-place x rule-operators = omega arith
   early-place x (condition-text k e) = place-within i _ condition (m .condition-reading) (m .condition-read) k e
   early-place x condition-nodes = omega arith
+  early-place x unsatisfiable = omega arith
 
   refusal-place : placeOf (m .refusal) ≤ textLimit
   refusal-place =
       subst (λ (x : Refusal). placeOf x ≤ textLimit) (sym (m .first))
-      (first-has (λ x. placeOf x ≤ textLimit) i o rule condition old (m .states) (m .reading) (m .condition-reading)
-      record { before = early-place; count = λ _. omega arith; buffer = λ _ _ _. omega arith; nothing = λ _ _ _. omega arith })
+      (first-has (λ x. placeOf x ≤ textLimit) i o rule condition old (m .states) (m .reading) (m .condition-reading) (m .none)
+      record { before = early-place; count = λ _. omega arith; buffer = λ _ _ _. omega arith; nothing = λ _ _ _ _. omega arith })
 
   module _ (z : numberOf (m .refusal) ≡ 0) where
-    passed : (badAlphabet i o ≡ false) × (m .states ≤ stateLimit) × (shortBuffers i o (m .states) old ≡ false)
-    passed = first-served i o rule condition old (m .reading) (m .condition-reading) (m .states) (ap numberOf (sym (m .first)) ∙ z)
+    passed : Served i o old (m .none) (m .states)
+    passed = first-served i o rule condition old (m .reading) (m .condition-reading) (m .none) (m .states) (ap numberOf (sym (m .first)) ∙ z)
 
     few-inputs : 2 ^ i ≤ numberLimit
     few-inputs = pow-mono {j = 4} (ltb-false 4 i (or-left (ltb 4 i) (ltb 4 o) (passed .0)))
@@ -102,7 +102,7 @@ module _ {mode : Mode} {i o : ℕ} {rule condition : List ℕ} {old new : Buffer
     served-line v s h =
         let p = few-inputs in
         let q = few-outputs in
-        let l = (passed .1) in
+        let l = passed .2 in
         line-length (2 ^ i) (new .accepting) (new .system) (new .environment) s (omega arith)
         (⊎-elim
         (λ w. system-length (2 ^ i) p (new .system) (new .environment) s (w .other) (λ x g. let b = w .bytes x g in omega arith))
@@ -111,11 +111,11 @@ module _ {mode : Mode} {i o : ℕ} {rule condition : List ℕ} {old new : Buffer
 
     served-length : (k : ℕ) → RuleServed mode i o rule condition old new (m .states) k → length (listing i new (verdictOf (m .states) k)) ≤ outputSize
     served-length zero v =
-        verdict-length (2 ^ i) (new .accepting) (new .system) (new .environment) cannotWord (m .states) 0 (omega arith) (passed .1) (omega arith)
+        verdict-length (2 ^ i) (new .accepting) (new .system) (new .environment) cannotWord (m .states) 0 (omega arith) (passed .2) (omega arith)
         (served-line v)
     served-length (suc k) v =
         rw (verdict-can (m .states) (suc k) (λ e. omega arith))
-        (verdict-length (2 ^ i) (new .accepting) (new .system) (new .environment) canWord (m .states) (suc k) (omega arith) (passed .1)
+        (verdict-length (2 ^ i) (new .accepting) (new .system) (new .environment) canWord (m .states) (suc k) (omega arith) (passed .2)
         (served-round (suc k) v) (served-line v))
 
   pub listing-length : length (listing i new r) ≤ outputSize

@@ -120,7 +120,7 @@ module _ (inputs : ℕ) (accepting system environment : List ℕ) where
         lines-length n h 0 n (omega arith),
       )
 
-pub refusal-length : (number place : ℕ) → number ≤ 14 → place ≤ textLimit → length (refusalLine number place) ≤ outputSize
+pub refusal-length : (number place : ℕ) → number ≤ 15 → place ≤ textLimit → length (refusalLine number place) ≤ outputSize
 unfolding refusalLine
 refusal-length number place h g =
     omega (

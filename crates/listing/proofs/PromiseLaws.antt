@@ -3,7 +3,7 @@
 -- Assumes nothing.
 use Prim.Native.Nat.{ℕ, _+_, _-_, _*_, _^_, _≤_, min}
 use mathlib.Core.Path.{_≡_, refl, sym, ap, subst, _∙_}
-use mathlib.Core.Bool.{true, false}
+use mathlib.Core.Bool.{Bool, true, false}
 use mathlib.Core.Logic.{_⊎_, ⊎-elim}
 use mathlib.Core.List.{List, _++_}
 use native.Mathlib.Nat.{mul-le-mul}
@@ -36,14 +36,15 @@ use Rattle.listing.proofs.FillingLaws.{written-filled, position-least}
 use Rattle.listing.proofs.RequestLaws.{request-asks, asks-request}
 
 -- no refusal needs room for more states than the limit
-needed-small : (i o : ℕ) (rule condition : List ℕ) (old : Buffers) (ρ κ : Reading) (n : ℕ) → neededOf (ruleRefusal i o rule condition old ρ κ n) ≤ stateLimit
-needed-small i o rule condition old ρ κ n =
-    first-has (λ x. neededOf x ≤ stateLimit) i o rule condition old n ρ κ
+needed-small : (i o : ℕ) (rule condition : List ℕ) (old : Buffers) (ρ κ : Reading) (none : Bool) (n : ℕ)
+    → neededOf (ruleRefusal i o rule condition old ρ κ none n) ≤ stateLimit
+needed-small i o rule condition old ρ κ none n =
+    first-has (λ x. neededOf x ≤ stateLimit) i o rule condition old n ρ κ none
     record {
       before = λ x h. rw (early-needed h) (omega arith);
       count = λ _. omega arith;
       buffer = λ _ l _. l;
-      nothing = λ _ _ _. omega arith;
+      nothing = λ _ _ _ _. omega arith;
     }
 
 -- zeros of a size are not too few for a share that is no larger
@@ -66,12 +67,12 @@ lent-enough i o n a few =
 pub never-short : {mode : Mode} {i o : ℕ} {rule condition : List ℕ} {new : Buffers} {r : Answer} → RuleSolved mode i o rule condition lent new r
     → answerNumber r ≡ 3 → ⊥
 never-short {mode} {i} {o} {rule} {condition} {new} {r} m e =
-    first-has (λ x. numberOf x ≡ 3 → ⊥) i o rule condition lent (m .states) (m .reading) (m .condition-reading)
+    first-has (λ x. numberOf x ≡ 3 → ⊥) i o rule condition lent (m .states) (m .reading) (m .condition-reading) (m .none)
     record {
       before = λ x h. early-number h .1;
       count = λ _ z. omega arith;
       buffer = λ a l t _. clash (shortBuffers i o (m .states) lent) t (lent-enough i o (m .states) a l);
-      nothing = λ _ _ _ z. omega arith;
+      nothing = λ _ _ _ _ z. omega arith;
     }
     (ap numberOf (sym (m .first)) ∙ sym (m .number) ∙ e)
 
@@ -89,11 +90,11 @@ solved-states {mode} {i} {o} {rule} {condition} {old} {new} {r} m =
     (λ z.
     let v = m .served z in
     let e : answerStates r ≡ m .states = ap answerStates (v .1) ∙ verdict-states (m .states) (v .0) in
-    let h = first-served i o rule condition old (m .reading) (m .condition-reading) (m .states) (ap numberOf (sym (m .first) ∙ z)) in
-    subst (λ (k : ℕ). k ≤ stateLimit) (sym e) (h .1))
+    let h = first-served i o rule condition old (m .reading) (m .condition-reading) (m .none) (m .states) (ap numberOf (sym (m .first) ∙ z)) in
+    subst (λ (k : ℕ). k ≤ stateLimit) (sym e) (h .2))
     (λ e.
     subst (λ (k : ℕ). k ≤ stateLimit) (sym (ap answerStates e ∙ ap neededOf (m .first)))
-    (needed-small i o rule condition old (m .reading) (m .condition-reading) (m .states)))
+    (needed-small i o rule condition old (m .reading) (m .condition-reading) (m .none) (m .states)))
     (served-or-refused m)
 
 -- the transitions are not listed

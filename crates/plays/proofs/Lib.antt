@@ -6,6 +6,7 @@ pub mod RankLaws
 pub mod Determined
 pub mod EndlessLaws
 pub mod WayLaws
+pub mod AbleLaws
 pub mod BeatenLaws
 pub mod RoundLaws
 pub mod KeyLaws

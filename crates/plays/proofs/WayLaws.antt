@@ -37,7 +37,7 @@ promised-ordered Fair G x ω p = λ m.
 promised-ordered Stable G x ω p = (p .0, λ j h. subst (λ (z : ℕ). holds G z ≡ true) (sym (input-ordered x ω j)) (p .1 j h))
 
 -- a step is what its numbers are
-same-step : (a : Step) (x y : ℕ) → a .input ≡ x → a .output ≡ y → a ≡ record { input = x; output = y }
+pub same-step : (a : Step) (x y : ℕ) → a .input ≡ x → a .output ≡ y → a ≡ record { input = x; output = y }
 same-step a x y e f = λ i. record { input = e i; output = f i }
 
 module _ (G : Arena) where

@@ -11,7 +11,7 @@ use lib.ListN.{length}
 use Rattle.plays.specs.declared.mode.Mode.{Mode}
 use Rattle.plays.specs.declared.mode.Mode.the-variants.{Fair, Stable}
 use Rattle.plays.specs.Arena.{State, Input, Arena, holds}
-use Rattle.plays.specs.Play.{Step, Along}
+use Rattle.plays.specs.Play.{Step, Legal, Along}
 use Rattle.plays.specs.Strategy.{Table, BySystem, ByEnvironment, Assumed, Failed}
 use Rattle.plays.specs.Way.{SystemWay, EnvironmentWay, Outputs, Inputs, bySystem, byEnvironment, ordered, meet, ByWay}
 
@@ -50,6 +50,25 @@ Omniscience = (d : ℕ → Bool) → ((j : ℕ) × (d j ≡ true)) ⊎ ((j : ℕ
 abbrev pub Honoured : Mode → Arena → (ℕ → Input) → Type 0
 Honoured Fair G x = Promised Fair G x
 Honoured Stable G x = ((Promised Stable G x → ⊥) → ⊥) × (Omniscience → Promised Stable G x)
+
+-- the environment can keep its promise, however a play began: so there is always something of which "can" says what it says
+pub record Able (mode : Mode) (G : Arena) : Type 0 where
+  -- an input has the condition, on whatever state: the condition is judged on the input alone
+  pub input : Input
+  pub legal : input < G .inputs
+  pub has : holds G input ≡ true
+  -- whatever the order of inputs was for k steps, some order that begins like it keeps the promise
+  pub orders : (x : ℕ → Input) → ((j : ℕ) → x j < G .inputs) → (k : ℕ)
+      → (y : ℕ → Input) × ((j : ℕ) → y j < G .inputs) × ((j : ℕ) → j < k → y j ≡ x j) × Promised mode G y
+  -- whatever the environment did for k steps, in sight of all outputs, it has a way to go on that keeps the promise against every way of the system
+  pub ways : (α : EnvironmentWay) → Inputs G α → (k : ℕ)
+      → (β : EnvironmentWay) × Inputs G β × ((past : List Step) → length past < k → β past ≡ α past)
+      × ((ω : SystemWay) → Promised mode G (inputs (meet β ω)))
+  -- whatever was played, from whatever state: the environment has a way that makes this play with every way of the system that the play is by, and goes on so
+  -- that the promise is kept
+  pub plays : (s : State) (p : List Step) → Along G (λ t a. Legal G a) s p
+      → (β : EnvironmentWay) × Inputs G β
+      × ((ω : SystemWay) → ByWay G ω p → (first (meet β ω) (length p) ≡ p) × Promised mode G (inputs (meet β ω)))
 
 -- a beginning of the play without end is done, by which `Done` says that it does what it has to, and up to there it follows the system's strategy: so the
 -- strategy had an output wherever one was needed. It is done by the k-th step with the condition: before its last step the condition had not come k times

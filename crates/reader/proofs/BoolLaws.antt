@@ -26,6 +26,10 @@ pub not-false-is-true : (b : Bool) → (b ≡ false → ⊥) → b ≡ true
 not-false-is-true true h = refl
 not-false-is-true false h = absurd (h refl)
 
+pub not-true-is-false : (b : Bool) → (b ≡ true → ⊥) → b ≡ false
+not-true-is-false true h = absurd (h refl)
+not-true-is-false false h = refl
+
 pub not-true→ : (b : Bool) → not b ≡ true → b ≡ false
 not-true→ true e = sym e
 not-true→ false e = refl

@@ -2,7 +2,7 @@
 -- Assumes nothing.
 use Prim.Native.Nat.{ℕ}
 use mathlib.Core.Path.{_≡_, refl, sym, ap, subst, _∙_}
-use mathlib.Core.Bool.{Bool, true, false}
+use mathlib.Core.Bool.{false}
 use mathlib.Core.List.{[], _∷_}
 use mathlib.Core.Logic.{_⊎_, ⊎-elim}
 use native.Mathlib.Omega.{arith}
@@ -15,7 +15,7 @@ use Rattle.reader.specs.declared.refusal.Subject.{Subject}
 use Rattle.reader.specs.declared.refusal.Subject.the-variants.{Rule, Condition}
 use Rattle.reader.specs.declared.refusal.Refusal.{Refusal}
 use Rattle.reader.specs.declared.refusal.Refusal.the-variants.{Nothing, Alphabet, TextLength, Buffer, RuleText, RuleNodes, RuleOperators}
-use Rattle.reader.specs.declared.refusal.Refusal.the-variants.{ConditionText, ConditionNodes, StateCount, GivenCount, Move, State, Value}
+use Rattle.reader.specs.declared.refusal.Refusal.the-variants.{ConditionText, ConditionNodes, StateCount, GivenCount, Move, State, Value, Unsatisfiable}
 use Rattle.reader.specs.Refusal.{numberOf, isNothing, afterText, afterRule, afterCondition}
 use Rattle.reader.proofs.reading.Reading.{the-type}
 
@@ -39,6 +39,7 @@ refused-or-served GivenCount = _⊎_.inr refl
 refused-or-served (Move k) = _⊎_.inr refl
 refused-or-served State = _⊎_.inr refl
 refused-or-served (Value k) = _⊎_.inr refl
+refused-or-served Unsatisfiable = _⊎_.inr refl
 
 -- only no refusal has the number 0
 pub no-number : (x : Refusal) → numberOf x ≡ 0 → x ≡ Nothing
@@ -52,6 +53,14 @@ something x h e = mathlib.Core.Bool.true≢false (subst (λ (y : Refusal). isNot
 -- a reading that is not good
 abbrev pub NotGood : Reading → Type 0
 NotGood ρ = (n : ℕ) → ρ ≡ Good n → ⊥
+
+-- every reading is good or not
+pub good-or-not : (ρ : Reading) → ((n : ℕ) × (ρ ≡ Good n)) ⊎ NotGood ρ
+good-or-not (Good n) = _⊎_.inl (n, refl)
+good-or-not TooLong = _⊎_.inr (λ n e. let z : _≡_ {A = ℕ} 0 1 = cc in omega arith)
+good-or-not (Bad k) = _⊎_.inr (λ n e. let z : _≡_ {A = ℕ} 0 1 = cc in omega arith)
+good-or-not TooManyNodes = _⊎_.inr (λ n e. let z : _≡_ {A = ℕ} 0 1 = cc in omega arith)
+good-or-not TooManyOperators = _⊎_.inr (λ n e. let z : _≡_ {A = ℕ} 0 1 = cc in omega arith)
 
 -- as the other arm of a `let .. else` on a good reading tells it
 pub not-good : (ρ : Reading) → OneOf (1 ∷ 2 ∷ 3 ∷ 4 ∷ []) (tagOf the-type ρ) → NotGood ρ

@@ -10,7 +10,7 @@ use Rattle.reader.specs.declared.refusal.Subject.{Subject}
 use Rattle.reader.specs.declared.refusal.Subject.the-variants.{Rule, Condition}
 use Rattle.reader.specs.declared.refusal.Refusal.{Refusal}
 use Rattle.reader.specs.declared.refusal.Refusal.the-variants.{Nothing, Alphabet, TextLength, Buffer, RuleText, RuleNodes, RuleOperators}
-use Rattle.reader.specs.declared.refusal.Refusal.the-variants.{ConditionText, ConditionNodes, StateCount, GivenCount, Move, State, Value}
+use Rattle.reader.specs.declared.refusal.Refusal.the-variants.{ConditionText, ConditionNodes, StateCount, GivenCount, Move, State, Value, Unsatisfiable}
 
 -- the specification's number of a refusal; 0 for none, which is what a served call has
 abbrev pub numberOf : Refusal → ℕ
@@ -28,6 +28,7 @@ numberOf GivenCount = 10
 numberOf (Move k) = 11
 numberOf State = 12
 numberOf (Value k) = 13
+numberOf Unsatisfiable = 15
 
 -- the place or index that goes with it; 0 where there is none
 abbrev pub placeOf : Refusal → ℕ
@@ -45,6 +46,7 @@ placeOf GivenCount = 0
 placeOf (Move k) = k
 placeOf State = 0
 placeOf (Value k) = k
+placeOf Unsatisfiable = 0
 
 -- the number of states that the buffers must have room for, which goes with 3; 0 for every other refusal
 abbrev pub neededOf : Refusal → ℕ
@@ -62,6 +64,7 @@ neededOf GivenCount = 0
 neededOf (Move k) = 0
 neededOf State = 0
 neededOf (Value k) = 0
+neededOf Unsatisfiable = 0
 
 -- whether there is no refusal, so that the call is served
 abbrev pub isNothing : Refusal → Bool

@@ -20,6 +20,7 @@ pub enum Refusal {
     Move(usize),
     State,
     Value(usize),
+    Unsatisfiable,
 }
 
 // Whose text it is.
@@ -75,6 +76,7 @@ pub fn number_of(x: Refusal) -> u8
         Refusal::Move(_) => 11,
         Refusal::State => 12,
         Refusal::Value(_) => 13,
+        Refusal::Unsatisfiable => 15,
     }
 }
 
@@ -97,6 +99,7 @@ pub fn place_of(x: Refusal) -> usize
         Refusal::Move(k) => k,
         Refusal::State => 0,
         Refusal::Value(k) => k,
+        Refusal::Unsatisfiable => 0,
     }
 }
 
@@ -119,5 +122,6 @@ pub fn needed_of(x: Refusal) -> usize
         Refusal::Move(_) => 0,
         Refusal::State => 0,
         Refusal::Value(_) => 0,
+        Refusal::Unsatisfiable => 0,
     }
 }

@@ -1,28 +1,34 @@
 -- The rule call answers each row as the specification says: its promise (game, specs/Rule.antt) leaves it no other verdict, no other n and no other round
--- number on a row that holds.
+-- number on a row that holds, and no other refusal where no input meets the condition.
 -- Assumes nothing.
 use Prim.Native.Nat.{ℕ}
-use mathlib.Core.Path.{_≡_, refl, sym, ap₂, _∙_, subst, subst₂}
+use mathlib.Core.Path.{_≡_, refl, sym, ap, ap₂, _∙_, subst, subst₂}
 use mathlib.Core.Bool.{true, false}
 use mathlib.Core.List.{List, [], _∷_}
+use native.Mathlib.Omega.{arith}
 use borrow.Author.Tests.{le-ltb}
 use Rattle.reader.specs.declared.reading.Reading.the-variants.{Good}
-use Rattle.reader.specs.declared.refusal.Refusal.the-variants.{Nothing}
+use Rattle.reader.specs.declared.refusal.Refusal.the-variants.{Nothing, Unsatisfiable}
 use Rattle.reader.specs.Formula.{Formula, size}
 use Rattle.reader.specs.Marks.{ruleKind, conditionKind}
 use Rattle.reader.specs.Reading.{ReadingOf, IsGood}
+use Rattle.reader.proofs.BoolLaws.{not-true-is-false}
+use Rattle.reader.proofs.RefusalLaws.{differs}
 use Rattle.reader.proofs.Unambiguous.{one-formula, one-reading}
 use Rattle.automaton.specs.Limits.{stateLimit}
+use Rattle.automaton.specs.Trace.{Satisfies}
 use Rattle.automaton.specs.Automaton.{Automaton}
 use Rattle.automaton.specs.Condition.{maskOf, Judges}
 use Rattle.game.specs.declared.answer.Answer.{Answer}
+use Rattle.game.specs.declared.answer.Answer.the-variants.{Refused}
 use Rattle.game.specs.Answer.{verdictOf}
+use Rattle.plays.specs.declared.mode.Mode.{Mode}
 use Rattle.plays.specs.Arena.{arena}
 use Rattle.plays.specs.Round.{RoundNumber}
 use Rattle.game.specs.Tables.{Tables}
-use Rattle.game.specs.Rule.{Satisfied, Buffers, shortBuffers, ruleRefusal, RuleServed}
+use Rattle.game.specs.Rule.{Satisfied, Buffers, shortBuffers, ruleRefusal, RuleServed, RuleSolved}
 use Rattle.plays.proofs.RoundLaws.{one-round}
-use Rattle.readings.specs.Row.{Row, lettersOf, arenaFor, RowHolds, SolvedFor, Answered, All}
+use Rattle.readings.specs.Row.{Row, Line, decided, unsatisfiable, lettersOf, arenaFor, RowHolds, SolvedFor, Unmet, LineHolds, LineAnswered, All}
 use Rattle.readings.specs.Rows.{rows}
 use Rattle.readings.proofs.Readings.{readings}
 
@@ -54,6 +60,16 @@ module _ (r : Row) (reading : RowHolds r) (old new : Buffers) (answer : Answer) 
   same-count : solved .states ≡ r .count
   same-count = solved .counted (reading .formula) (reading .good) ∙ sym (reading .counted)
 
+  -- some input meets the condition
+  met : solved .none ≡ false
+  met =
+      not-true-is-false (solved .none)
+      (λ t.
+      let n = solved .none-satisfies .0 t in
+      let e : n .0 ≡ reading .assumption = one-formula i 0 false (r .condition) (n .1 .reads) (reading .assumed .reads) in
+      let x = reading .met in
+      n .2 (x .0) (x .1) (subst (λ (κ : Formula). Satisfies κ (x .0 ∷ [])) (sym e) (x .2)))
+
   -- the call is not refused
   served : solved .refusal ≡ Nothing
   unfolding ruleRefusal
@@ -62,7 +78,7 @@ module _ (r : Row) (reading : RowHolds r) (old new : Buffers) (answer : Answer) 
       let f =
       one-reading i 0 false (r .condition) (solved .condition-read)
       (good-reading i (conditionKind i) (r .condition) (reading .assumption) (reading .assumed)) in
-      solved .first ∙ rw (reading .small, reading .short, e, f, same-count, le-ltb stateLimit (r .count) (reading .few), long)
+      solved .first ∙ rw (reading .small, reading .short, e, f, met, same-count, le-ltb stateLimit (r .count) (reading .few), long)
 
   held : (k : ℕ) → RuleServed (r .mode) i o (r .rule) (r .condition) old new (solved .states) k
       → Held r (reading .formula) (reading .assumption) old new k
@@ -101,10 +117,30 @@ module _ (r : Row) (reading : RowHolds r) (old new : Buffers) (answer : Answer) 
       let e = same-round (w .0) h in
       (w .1 ∙ ap₂ verdictOf same-count e, subst (λ (k : ℕ). Held r (reading .formula) (reading .assumption) old new k) e h)
 
--- every row that holds is answered so
-all-answered : (rs : List Row) → All RowHolds rs → All Answered rs
-all-answered [] xs = tt
-all-answered (r ∷ rs) xs = ((λ old new answer long solved. answered r (xs .0) old new answer long solved .0), all-answered rs (xs .1))
+-- an unsatisfiable condition is refused by 15
+module _ (mode : Mode) (i o : ℕ) (rule condition : List ℕ) (u : Unmet i o rule condition) (old new : Buffers) (answer : Answer)
+    (solved : RuleSolved mode i o rule condition old new answer) where
+  first-is : solved .refusal ≡ Unsatisfiable
+  unfolding ruleRefusal
+  first-is =
+      let e = one-reading i o true rule (solved .read) (good-reading i (ruleKind i o) rule (u .formula) (u .good)) in
+      let f =
+      one-reading i 0 false condition (solved .condition-read) (good-reading i (conditionKind i) condition (u .none .0) (u .none .1)) in
+      solved .first ∙ rw (u .small, u .short, e, f, solved .none-satisfies .1 (u .none))
 
-pub answers : All Answered rows
+  refused-so : (answer ≡ Refused Unsatisfiable) × (new ≡ old)
+  refused-so =
+      let w = solved .refused (λ z. differs Unsatisfiable Nothing (λ e. omega arith) (sym first-is ∙ z)) in
+      (w .0 ∙ ap Refused first-is, w .1)
+
+-- every row that holds is answered so
+line-answered : (l : Line) → LineHolds l → LineAnswered l
+line-answered (decided r) h = λ old new answer long solved. answered r h old new answer long solved .0
+line-answered (unsatisfiable i o rule mode condition) h = refused-so mode i o rule condition h
+
+all-answered : (ls : List Line) → All LineHolds ls → All LineAnswered ls
+all-answered [] xs = tt
+all-answered (l ∷ ls) xs = (line-answered l (xs .0), all-answered ls (xs .1))
+
+pub answers : All LineAnswered rows
 answers = all-answered rows readings

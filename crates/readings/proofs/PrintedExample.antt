@@ -39,7 +39,8 @@ use Rattle.readings.specs.Example.{exampleInput, exampleListing}
 use Rattle.readings.proofs.Tree.{single, prefixed, flat, formulaOf, fits, sameBytes, readsBy}
 use Rattle.readings.proofs.Test.{below, stepOf, outputOf, inputOf, bytesOf, stateOf, winsOf, roundOf}
 use Rattle.machine.proofs.OneAutomaton.{one-move, one-flag}
-use Rattle.readings.proofs.Certificate.{Certificate, certificate, alphabetPasses, textsPass, sizesPass, countPasses, winnerPasses, passesWith, passes}
+use Rattle.readings.proofs.Certificate.{Certificate, certificate, alphabetPasses, textsPass, sizesPass, readPasses, emptyPasses, countPasses}
+use Rattle.readings.proofs.Certificate.{winnerPasses, passesWith, passes}
 use Rattle.readings.proofs.CertificateLaws.{held, ranked-won, reading, reading-formulas}
 use Rattle.readings.proofs.Answers.{Held, answered}
 use Rattle.readings.proofs.StateLaws.{other-byte}
@@ -55,7 +56,8 @@ never = certificate (prefixed 70 (single 97)) (single 49) (0 ∷ 0 ∷ []) (1 �
 
 -- the row's certificate passes
 passed : passes example never ≡ true
-unfolding passes passesWith alphabetPasses textsPass sizesPass countPasses winnerPasses readsBy sameBytes fits formulaOf flat roundOf winsOf stateOf
+unfolding passes passesWith readPasses emptyPasses alphabetPasses textsPass sizesPass countPasses winnerPasses readsBy sameBytes fits formulaOf flat roundOf
+    winsOf stateOf
     bytesOf inputOf outputOf stepOf below next goal holds maskOf flagsOf flagsOn transitionsOf transitionsOn listOf numberOfStates states discovered
     look target extend position accepts after start vectors endVector present ends coords value gather ofBits bit withoutBlanks binaryOf unaryOf
     operandOf markKind amongOf isTemporalMark allowedBy kindIn operators size

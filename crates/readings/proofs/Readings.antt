@@ -14,12 +14,12 @@ use Rattle.automaton.specs.State.{start, after, accepts}
 use Rattle.machine.specs.Discovery.{position, extend, target, look, discovered, states, numberOfStates}
 use Rattle.plays.specs.Arena.{next, goal, holds}
 use Rattle.readings.specs.Lists.{listOf, transitionsOn, transitionsOf, flagsOn, flagsOf}
-use Rattle.readings.specs.Row.{RowHolds, All}
+use Rattle.readings.specs.Row.{LineHolds, All}
 use Rattle.readings.specs.Rows.{rows}
 use Rattle.readings.proofs.Tree.{Tree, single, prefixed, grouped, joined, flat, formulaOf, fits, sameBytes, readsBy}
 use Rattle.readings.proofs.Test.{below, stepOf, outputOf, inputOf, bytesOf, stateOf, winsOf, beatenOf, roundOf}
-use Rattle.readings.proofs.Certificate.{Certificate, certificate, alphabetPasses, textsPass, sizesPass}
-use Rattle.readings.proofs.Certificate.{countPasses, winnerPasses, passesWith, passes, allPass}
+use Rattle.readings.proofs.Certificate.{Certificate, certificate, alphabetPasses, textsPass, sizesPass, readPasses, emptyPasses}
+use Rattle.readings.proofs.Certificate.{countPasses, winnerPasses, passesWith, passes, unmetPasses, linePasses, allPass}
 use Rattle.readings.proofs.CertificateLaws.{all-readings}
 
 -- 0 and 1, and the names a and p
@@ -40,7 +40,7 @@ abbrev twice : Tree
 twice = prefixed 70 (grouped (joined 1 a 38 (prefixed 88 a)))
 
 -- for each row how its texts are read, the winner's table and ranks up to the last state that has a rank, and inputs that beat the system with one less than
--- the round number, which are none where that is 0
+-- the round number, which are none where that is 0; nothing but the reading where no input meets the condition
 certificates : List Certificate
 certificates =
     -- Fp: p at once
@@ -49,8 +49,8 @@ certificates =
     ∷ certificate (prefixed 70 a) ever (0 ∷ 0 ∷ []) (1 ∷ 1 ∷ []) []
     -- fair a: it has to
     ∷ certificate (prefixed 70 a) a (0 ∷ 0 ∷ 0 ∷ 0 ∷ []) (1 ∷ 1 ∷ []) []
-    -- fair 0: the condition never holds
-    ∷ certificate (prefixed 70 a) never (0 ∷ 0 ∷ 0 ∷ 0 ∷ []) (1 ∷ 1 ∷ []) []
+    -- fair 0: no input meets it
+    ∷ certificate (prefixed 70 a) never [] [] []
     -- Ga: the environment leaves a out once, and gives it from then on
     ∷ certificate (prefixed 71 a) a (0 ∷ 1 ∷ []) (2 ∷ 1 ∷ []) []
     -- F(a&Xa), fair: the environment gives a at every other step
@@ -67,8 +67,9 @@ certificates =
     ∷ certificate (joined 0 p 85 a) a (1 ∷ 0 ∷ 255 ∷ 255 ∷ 255 ∷ 255 ∷ 1 ∷ 0 ∷ []) (1 ∷ 0 ∷ 0 ∷ 1 ∷ []) []
     ∷ []
 
-pub readings : All RowHolds rows
-unfolding rows certificates allPass passes passesWith alphabetPasses textsPass sizesPass countPasses winnerPasses readsBy sameBytes fits formulaOf
+pub readings : All LineHolds rows
+unfolding rows certificates allPass linePasses passes unmetPasses passesWith readPasses emptyPasses alphabetPasses textsPass sizesPass countPasses winnerPasses
+    readsBy sameBytes fits formulaOf
     flat roundOf winsOf beatenOf stateOf bytesOf inputOf outputOf stepOf below next goal holds maskOf flagsOf flagsOn transitionsOf transitionsOn
     listOf numberOfStates states discovered look target extend position accepts after start vectors endVector present ends coords value gather ofBits
     bit withoutBlanks binaryOf unaryOf operandOf markKind amongOf isTemporalMark allowedBy kindIn operators size

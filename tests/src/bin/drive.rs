@@ -5,6 +5,7 @@
 //!   drive PATH_TO_AIRTABLE [--seed N] [--times K] [FILE.rule ..]
 
 use solver::chance::Chance;
+use solver::conditions::{met_once, unmet_condition};
 use solver::large::LARGE;
 use solver::listing::airtable;
 use solver::makers::{any_condition, any_text, damaged, good_condition, row_rule, rule_text};
@@ -72,6 +73,14 @@ const BY_HAND: &[&[u8]] = &[
     b"1 1\nfair\naUa\nFp\n",
     b"0 0\nfair\n1\nF1\n",
     b"0 0\nstable\n0\n0\n",
+    b"0 0\nstable\n1\n0\n",
+    b"0 0\nfair\n!1\n1\n",
+    b"1 1\nstable\na&!a\nFp\n",
+    b"1 1\nfair\n!(a>a)\n\n",
+    b"2 1\nfair\n(a|b)&!a&!b\nFp\n",
+    b"2 1\nfair\n(a|b)&!a&b\nFp\n",
+    b"4 4\nfair\n 0 \nF((a|Gp)&(b|Gq)&(c|Gr)&(d|Gs))\n",
+    b"5 1\nfair\n0\nFp\n",
     b"0 4\nfair\n1\nF(p&q&r&s)\n",
     b"4 0\nstable\na&b\nF(a&c)\n",
     b"0 0\nfair\na\n1\n",
@@ -125,6 +134,16 @@ fn large_input(chance: &mut Chance) -> Vec<u8> {
     [format!("{i} {o}\n").as_bytes(), mode, b"\n", &condition, b"\n", rule, b"\n"].concat()
 }
 
+/// A condition that no input number meets, or one alone, with a rule of any kind, also one with about 128 states.
+fn unmet_input(chance: &mut Chance) -> Vec<u8> {
+    let (i, o) = (chance.below(5), chance.below(3));
+    let any = any_text(chance, i, o);
+    let (i, o, rule) = chance.pick(&[(i, o, &b"F1"[..]), (i, o, &any), (4, 4, LARGE[0].3), (4, 4, LARGE[1].3)]);
+    let condition = if chance.one_in(4) { met_once(chance, i) } else { unmet_condition(chance, i) };
+    let mode = chance.pick(&[&b"fair"[..], b"stable"]);
+    [format!("{i} {o}\n").as_bytes(), mode, b"\n", &condition, b"\n", rule, b"\n"].concat()
+}
+
 /// Four good lines.
 fn good_input(chance: &mut Chance) -> Vec<u8> {
     let most = chance.pick(&[1, 2, 2, 3]);
@@ -160,11 +179,12 @@ fn input(chance: &mut Chance, k: usize) -> Vec<u8> {
     if let Some((size, behind)) = SIZES.get(k - BY_HAND.len()) {
         return sized_input(*size, behind);
     }
-    match chance.below(13) {
+    match chance.below(14) {
         0 => long_input(chance),
         10 => limit_input(chance),
         11 => large_input(chance),
         12 => row_input(chance),
+        13 => unmet_input(chance),
         1 => {
             let good = good_input(chance);
             damaged(chance, good)

@@ -2,8 +2,9 @@
 -- Assumes nothing.
 use Prim.Native.Nat.{ℕ}
 use mathlib.Core.Path.{_≡_}
-use mathlib.Core.Bool.{false}
+use mathlib.Core.Bool.{Bool, true, false}
 use mathlib.Core.List.{List}
+use mathlib.Core.Logic.{_↔_}
 use Rattle.reader.specs.declared.reading.Reading.{Reading}
 use Rattle.reader.specs.declared.reading.Reading.the-variants.{Good}
 use Rattle.reader.specs.declared.refusal.Refusal.{Refusal}
@@ -13,11 +14,11 @@ use Rattle.reader.specs.Formula.{Formula}
 use Rattle.reader.specs.Marks.{ruleKind, conditionKind}
 use Rattle.reader.specs.Reading.{ReadingOf, IsGood}
 use Rattle.automaton.specs.Alphabet.{badAlphabet}
-use Rattle.automaton.specs.Condition.{maskOf, Judges}
+use Rattle.automaton.specs.Condition.{maskOf, Judges, NoneSatisfies}
 use Rattle.game.specs.Rule.{Buffers, ruleRefusal}
 
 -- every test before the states are counted is passed, and the mask is the condition's
-pub record TestsPassed (i o : ℕ) (rule condition : List ℕ) (reading condition-reading : Reading) (mask : ℕ) : Type 0 where
+pub record TestsPassed (i o : ℕ) (rule condition : List ℕ) (reading condition-reading : Reading) (none : Bool) (mask : ℕ) : Type 0 where
   pub alphabet : badAlphabet i o ≡ false
   pub rule-fits : tooLong rule ≡ false
   pub condition-fits : tooLong condition ≡ false
@@ -25,6 +26,7 @@ pub record TestsPassed (i o : ℕ) (rule condition : List ℕ) (reading conditio
   pub rule-good : reading ≡ Good rule-nodes
   pub condition-nodes : ℕ
   pub condition-good : condition-reading ≡ Good condition-nodes
+  pub some : none ≡ false
   pub assumption : Formula
   pub assumed : IsGood i (conditionKind i) condition assumption
   pub mask-is : mask ≡ maskOf assumption i
@@ -36,6 +38,8 @@ pub record RuleChecked (i o : ℕ) (rule condition : List ℕ) (refusal : Refusa
   pub read : ReadingOf i (ruleKind i o) rule reading
   pub condition-reading : Reading
   pub condition-read : ReadingOf i (conditionKind i) condition condition-reading
-  pub first : (refusal ≡ Nothing → ⊥) → (old : Buffers) (n : ℕ) → refusal ≡ ruleRefusal i o rule condition old reading condition-reading n
+  pub none : Bool
+  pub none-satisfies : (none ≡ true) ↔ NoneSatisfies i condition
+  pub first : (refusal ≡ Nothing → ⊥) → (old : Buffers) (n : ℕ) → refusal ≡ ruleRefusal i o rule condition old reading condition-reading none n
   pub not-count : refusal ≡ StateCount → ⊥
-  pub passed : refusal ≡ Nothing → TestsPassed i o rule condition reading condition-reading mask
+  pub passed : refusal ≡ Nothing → TestsPassed i o rule condition reading condition-reading none mask

@@ -20,6 +20,17 @@ pub struct Case {
     pub outside: Lent,
 }
 
+/// A mask that some input has: any, of one input, or of all.
+fn met_mask(chance: &mut Chance, i: usize) -> u16 {
+    let all = ((1u32 << (1 << i)) - 1) as u16;
+    let one = 1 << chance.below(1 << i);
+    match (chance.draw() as u16 & all, chance.below(10)) {
+        (0, _) | (_, 0) => one,
+        (_, 1) => all,
+        (mask, _) => mask,
+    }
+}
+
 impl Case {
     /// A case without faults on n states.
     pub fn good(chance: &mut Chance, i: usize, o: usize, n: usize) -> Case {
@@ -29,8 +40,7 @@ impl Case {
             moves.extend(chance.bytes(more));
             marks.extend(chance.bytes(more));
         }
-        let mask = (chance.draw() & ((1u64 << (1 << i)) - 1)) as u16;
-        let mask = if chance.one_in(5) { chance.pick(&[0, ((1u32 << (1 << i)) - 1) as u16]) } else { mask };
+        let mask = met_mask(chance, i);
         let start = chance.below(n);
         Case::on(chance, (i, o), Given { n, moves, marks, start, mask })
     }
@@ -182,10 +192,10 @@ fn bad_move(chance: &mut Chance, given: &mut Given, used: usize) {
 }
 
 /// Puts in one fault of the given call, or something that looks like one.
-fn spoil(chance: &mut Chance, case: &mut Case) {
+pub fn spoil(chance: &mut Chance, case: &mut Case) {
     let (i, o) = (case.i.min(4), case.o.min(4));
     let n = case.given.n;
-    match chance.below(8) {
+    match chance.below(9) {
         0 => case.i = wild_count(chance, 5),
         1 => case.o = wild_count(chance, 5),
         2 => {
@@ -197,7 +207,8 @@ fn spoil(chance: &mut Chance, case: &mut Case) {
             bad_move(chance, &mut case.given, n << (i + o))
         }
         5 => case.given.mask |= 1 << chance.below(16),
-        6 => {
+        6 => case.given.mask = 0,
+        7 => {
             let length = wild_length(chance, n.min(STATES) << i);
             case.station = Lent::new(chance, length);
             let length = wild_length(chance, n.min(STATES));
@@ -251,6 +262,7 @@ pub fn buffers(chance: &mut Chance, tally: &mut Tally) -> Result<(), String> {
         0 => case.given.start = n,
         1 => case.given.mask |= 1 << chance.below(16),
         2 => case.given.n = chance.pick(&[0, 129]),
+        3 => case.given.mask = 0,
         _ => {}
     }
     case.run(chance, tally)

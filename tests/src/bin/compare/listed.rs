@@ -99,7 +99,7 @@ pub fn text_of_length(case: u64, chance: &mut Chance, tally: &mut Tally) -> Resu
     run(i, o, &text, &letters, tally)
 }
 
-/// The count of games of two states with one input and one output.
+/// The count of games of two states with one input and one output; a quarter of them, those with the mask 0, are refused.
 pub const TINY_GAMES: u64 = 256 * 4 * 4 * 2 * 2;
 
 /// The k-th of them.

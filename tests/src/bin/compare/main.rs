@@ -17,6 +17,7 @@ mod rules;
 mod sources;
 mod tally;
 mod trials;
+mod unmet;
 
 use solver::chance::Chance;
 use std::sync::atomic::{AtomicU64, AtomicUsize, Ordering};
@@ -37,7 +38,7 @@ enum Run {
 
 use Run::*;
 
-const KINDS: [Kind; 24] = [
+const KINDS: [Kind; 26] = [
     Kind { name: "readings", count: sources::READINGS_COUNT, run: Listed(sources::reading) },
     Kind { name: "published", count: sources::PUBLISHED_COUNT, run: Listed(sources::published) },
     Kind { name: "trial-short", count: listed::SHORT_TEXTS, run: Listed(listed::short_text) },
@@ -62,6 +63,8 @@ const KINDS: [Kind; 24] = [
     Kind { name: "rule-rows", count: 15_000, run: Random(rules::rows) },
     Kind { name: "rule-many", count: 800, run: Random(rules::many) },
     Kind { name: "given-buffers", count: 8_000, run: Random(givens::buffers) },
+    Kind { name: "rule-unmet", count: 20_000, run: Random(unmet::rules) },
+    Kind { name: "given-unmet", count: 20_000, run: Random(unmet::givens) },
 ];
 
 /// Where the run stands, for the message after a crash inside the library.

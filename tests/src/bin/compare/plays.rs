@@ -112,6 +112,6 @@ pub fn rule_plays(chance: &mut Chance, tally: &mut Tally) -> Result<(), String> 
     let rule = if rich { rich_rule(chance, i, o) } else { rule_text(chance, i, o, size, 4) };
     let condition = good_condition(chance, i);
     let mut case = Case::new(chance, (i, o), rule, condition, enough);
-    let Some(verdict) = case.compare(1, tally).map_err(|what| case.print(what))? else { return Ok(()) };
+    let Ok(verdict) = case.compare(1, tally).map_err(|what| case.print(what))? else { return Ok(()) };
     play(&case, verdict, chance, tally).map_err(|what| case.print(what))
 }

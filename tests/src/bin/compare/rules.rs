@@ -14,6 +14,9 @@ use solver::tree::condition_mask;
 use solver::wording::Wording;
 use solver::{Mode, STATES};
 
+/// What a call for a rule comes to.
+pub type Answer = Result<Verdict, Refusal>;
+
 /// One call for a rule.
 pub struct Case {
     pub i: usize,
@@ -27,11 +30,14 @@ pub struct Case {
     pub outside: Lent,
 }
 
-/// The number of states that the buffers must have room for, which the solver tells one who lends nothing; the most
-/// where the rule or its condition is refused.
+/// What the solver tells one who lends nothing.
+pub fn told(i: usize, o: usize, rule: &[u8], condition: &[u8]) -> Refusal {
+    solve_rule(i, o, Mode::Fair, rule, condition, &mut Buffers::default()).expect_err("a rule has a state")
+}
+
+/// The number of states that the buffers must have room for; the most where the rule or its condition is refused.
 fn states(i: usize, o: usize, rule: &[u8], condition: &[u8]) -> usize {
-    let asked = solve_rule(i, o, Mode::Fair, rule, condition, &mut Buffers::default());
-    asked.expect_err("a rule has a state").needed.unwrap_or(STATES)
+    told(i, o, rule, condition).needed.unwrap_or(STATES)
 }
 
 impl Case {
@@ -53,7 +59,7 @@ impl Case {
     }
 
     /// The same case with other lengths.
-    fn lending(mut self, chance: &mut Chance, lengths: [usize; 4]) -> Case {
+    pub fn lending(mut self, chance: &mut Chance, lengths: [usize; 4]) -> Case {
         let lent = [&mut self.moves, &mut self.marks, &mut self.station, &mut self.outside];
         for (buffer, told) in lent.into_iter().zip(lengths) {
             *buffer = Lent::new(chance, told);
@@ -62,7 +68,7 @@ impl Case {
     }
 
     /// The lengths of the four buffers.
-    fn lengths(&self) -> [usize; 4] {
+    pub fn lengths(&self) -> [usize; 4] {
         [&self.moves, &self.marks, &self.station, &self.outside].map(|buffer| buffer.told)
     }
 
@@ -82,15 +88,15 @@ impl Case {
     }
 
     /// The solver's answer and its buffers after.
-    fn wanted(&self) -> (Result<Verdict, Refusal>, Buffers) {
+    fn wanted(&self) -> (Answer, Buffers) {
         let (moves, marks) = (self.moves.old(), self.marks.old());
         let mut buffers = Buffers { moves, marks, station: self.station.old(), outside: self.outside.old() };
         let answer = solve_rule(self.i, self.o, self.mode, &self.rule, &self.condition, &mut buffers);
         (answer, buffers)
     }
 
-    /// Compares all that the call writes, and has the tables judged.
-    pub fn compare(&mut self, any: u8, tally: &mut Tally) -> Result<Option<Verdict>, String> {
+    /// Compares all that the call writes, and has the tables judged; hands back what the call came to.
+    pub fn compare(&mut self, any: u8, tally: &mut Tally) -> Result<Answer, String> {
         let told = self.call(any);
         let (wanted, buffers) = self.wanted();
         check_number(&told, wanted.map(|_| ()))?;
@@ -110,11 +116,11 @@ impl Case {
                 self.judged(verdict, tally)?;
             }
         }
-        Ok(wanted.ok())
+        Ok(wanted)
     }
 
-    /// Counts a refusal: with 3 by the buffers that are short, with 4 to 9 by buffers so short that 3 would come if it
-    /// came first, and with 9 also by full ones.
+    /// Counts a refusal: with 3 by the buffers that are short, with 4 to 9 and 15 by buffers so short that 3 would come
+    /// if it came first, and with 9 also by full ones.
     fn count_refused(&self, refusal: Refusal, tally: &mut Tally) {
         let (number, lengths) = (refusal.number, self.lengths());
         let name = format!("rule: refused {number:2}");
@@ -175,7 +181,7 @@ pub fn texts(chance: &mut Chance, tally: &mut Tally) -> Result<(), String> {
 }
 
 /// A good rule of some size.
-fn good_rule(chance: &mut Chance, i: usize, o: usize, most: usize, operators: usize) -> Vec<u8> {
+pub fn good_rule(chance: &mut Chance, i: usize, o: usize, most: usize, operators: usize) -> Vec<u8> {
     let size = chance.between(2, most);
     let text = rule_text(chance, i.min(4), o.min(4), size, operators);
     if chance.one_in(5) {
@@ -196,7 +202,7 @@ pub fn games(chance: &mut Chance, tally: &mut Tally) -> Result<(), String> {
 }
 
 /// A text with one fault at will: too long, bad, too many nodes, too many operators.
-fn faulty(chance: &mut Chance, i: usize, o: usize, temporal: usize) -> Vec<u8> {
+pub fn faulty(chance: &mut Chance, i: usize, o: usize, temporal: usize) -> Vec<u8> {
     let (i, o) = (i.min(4), o.min(4));
     let good = rule_text(chance, i, o, 6, temporal.min(2));
     match chance.below(8) {
@@ -263,7 +269,7 @@ fn asked(case: Case, chance: &mut Chance, tally: &mut Tally) -> Result<(), Strin
     let any = chance.byte();
     let mut case = case.lending(chance, [0; 4]);
     let n = case.call(any).n;
-    case.compare(any, tally).map_err(|what| case.print(what))?;
+    let _ = case.compare(any, tally).map_err(|what| case.print(what))?;
     if n == 0 {
         return Ok(());
     }
@@ -271,7 +277,7 @@ fn asked(case: Case, chance: &mut Chance, tally: &mut Tally) -> Result<(), Strin
     let lengths = shares(case.i, case.o, n);
     let mut case = case.lending(chance, lengths);
     match case.compare(any, tally).map_err(|what| case.print(what))? {
-        Some(verdict) if verdict.n == n => Ok(()),
+        Ok(verdict) if verdict.n == n => Ok(()),
         _ => Err(case.print(format!("asked for n the library said {n}, and lent so much it refuses"))),
     }
 }
@@ -320,8 +326,8 @@ pub fn large(chance: &mut Chance, tally: &mut Tally) -> Result<(), String> {
     let condition = if chance.one_in(4) { any_condition(chance, i) } else { good_condition(chance, i) };
     let mut case = Case::new(chance, (i, o), rule, condition, enough);
     let any = chance.byte();
-    let verdict = case.compare(any, tally).map_err(|what| case.print(what))?;
-    if let Some(verdict) = verdict.filter(|verdict| verdict.n > 100) {
+    let answer = case.compare(any, tally).map_err(|what| case.print(what))?;
+    if let Some(verdict) = answer.ok().filter(|verdict| verdict.n > 100) {
         tally.count(format!("rule: n {}", if verdict.n < 126 { "101 to 125".into() } else { verdict.n.to_string() }));
     }
     Ok(())

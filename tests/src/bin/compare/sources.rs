@@ -2,32 +2,35 @@
 //! rows of published.tsv. A row that is called valid, an equivalence most often, is tried on lists.
 
 use crate::common::*;
-use crate::rules::Case;
+use crate::rules::{Answer, Case};
 use crate::tally::Tally;
 use crate::trials::run;
-use solver::calls::{try_rule, Verdict};
+use solver::calls::{try_rule, Refusal};
 use solver::chance::Chance;
 use solver::Mode;
 
-/// Mode, condition, rule, and verdict with n and the round number; none where it is refused or the verdict is open.
-type Reading = (Mode, &'static str, &'static str, Option<(bool, usize, usize)>);
+/// What a source states: a verdict with n and, if it is known, the round number; nothing where the verdict is open.
+type Stated = Option<(bool, usize, Option<usize>)>;
+
+/// Mode, condition, rule, and verdict with n and the round number, none where it is open; or the refusal.
+type Reading = (Mode, &'static str, &'static str, Result<Option<(bool, usize, usize)>, Refusal>);
 
 /// The readings with i = o = 1.
 const READINGS: [Reading; 14] = [
-    (Mode::Fair, "1", "Fp", Some((true, 3, 1))),
-    (Mode::Fair, "1", "Fa", Some((false, 3, 0))),
-    (Mode::Fair, "a", "Fa", Some((true, 3, 1))),
-    (Mode::Fair, "0", "Fa", Some((true, 3, 1))),
-    (Mode::Stable, "a", "Ga", Some((false, 3, 0))),
-    (Mode::Fair, "a", "F(a&Xa)", Some((false, 4, 0))),
-    (Mode::Stable, "a", "F(a&Xa)", Some((true, 4, 2))),
-    (Mode::Fair, "1", "Xa", Some((false, 4, 0))),
-    (Mode::Fair, "1", "Na", Some((true, 4, 1))),
-    (Mode::Fair, "1", "a&p|!a&!p", Some((true, 3, 1))),
-    (Mode::Fair, "a", "pUa", Some((true, 4, 1))),
-    (Mode::Fair, "1", "XXXXXXa", None),
-    (Mode::Fair, "1", "", None),
-    (Mode::Fair, "1", "XXXXXa", None),
+    (Mode::Fair, "1", "Fp", Ok(Some((true, 3, 1)))),
+    (Mode::Fair, "1", "Fa", Ok(Some((false, 3, 0)))),
+    (Mode::Fair, "a", "Fa", Ok(Some((true, 3, 1)))),
+    (Mode::Fair, "0", "Fa", Err(Refusal::plain(15))),
+    (Mode::Stable, "a", "Ga", Ok(Some((false, 3, 0)))),
+    (Mode::Fair, "a", "F(a&Xa)", Ok(Some((false, 4, 0)))),
+    (Mode::Stable, "a", "F(a&Xa)", Ok(Some((true, 4, 2)))),
+    (Mode::Fair, "1", "Xa", Ok(Some((false, 4, 0)))),
+    (Mode::Fair, "1", "Na", Ok(Some((true, 4, 1)))),
+    (Mode::Fair, "1", "a&p|!a&!p", Ok(Some((true, 3, 1)))),
+    (Mode::Fair, "a", "pUa", Ok(Some((true, 4, 1)))),
+    (Mode::Fair, "1", "XXXXXXa", Err(Refusal::plain(6))),
+    (Mode::Fair, "1", "", Err(Refusal::placed(4, 0))),
+    (Mode::Fair, "1", "XXXXXa", Ok(None)),
 ];
 
 /// The count of readings, the one with i = o = 4 included.
@@ -48,37 +51,34 @@ fn stated(
     mode: Mode,
     condition: &str,
     rule: &str,
-    wanted: Option<(bool, usize, Option<usize>)>,
+    wanted: Stated,
     tally: &mut Tally,
-) -> Result<Option<Verdict>, String> {
+) -> Result<Answer, String> {
     let mut case = Case::new(chance, (i, o), rule.into(), condition.into(), enough);
     case.mode = mode;
-    let verdict = case.compare(1, tally).map_err(|what| case.print(what))?;
-    match (wanted, verdict) {
-        (Some((can, n, round)), Some(told))
+    let answer = case.compare(1, tally).map_err(|what| case.print(what))?;
+    match (wanted, answer) {
+        (Some((can, n, round)), Ok(told))
             if (told.can, told.n) == (can, n) && round.is_none_or(|r| told.round == r) =>
         {
-            Ok(verdict)
+            Ok(answer)
         }
-        (None, _) => Ok(verdict),
+        (None, _) => Ok(answer),
         _ => Err(case.print(format!("the source states {wanted:?}"))),
     }
 }
 
 /// The k-th reading of the specification.
 pub fn reading(case: u64, chance: &mut Chance, tally: &mut Tally) -> Result<(), String> {
-    let Some(&(mode, condition, rule, wanted)) = READINGS.get(case as usize) else {
-        let wide = "F((a|Gp)&(b|Gq)&(c|Gr)&(d|Gs))";
-        let verdict = stated(chance, (4, 4), Mode::Fair, "1", wide, None, tally)?;
-        return if verdict.is_none() { Ok(()) } else { Err("the rule with 169 states was served".into()) };
-    };
-    let wanted = wanted.map(|(can, n, round)| (can, n, Some(round)));
-    let verdict = stated(chance, (1, 1), mode, condition, rule, wanted, tally)?;
-    let served = rule != "XXXXXXa" && !rule.is_empty();
-    if verdict.is_some() == served {
+    let wide = (Mode::Fair, "1", "F((a|Gp)&(b|Gq)&(c|Gr)&(d|Gs))", Err(Refusal::plain(9)));
+    let names = if READINGS.len() as u64 > case { 1 } else { 4 };
+    let &(mode, condition, rule, wanted) = READINGS.get(case as usize).unwrap_or(&wide);
+    let verdict = wanted.ok().flatten().map(|(can, n, round)| (can, n, Some(round)));
+    let answer = stated(chance, (names, names), mode, condition, rule, verdict, tally)?;
+    if answer.err() == wanted.err() {
         Ok(())
     } else {
-        Err(format!("{rule:?}: served {}", !served))
+        Err(format!("{rule:?} under {condition:?}: {answer:?}, the specification states {wanted:?}"))
     }
 }
 

@@ -1,8 +1,8 @@
 -- `automaton::condition::read_condition` meets its contract: each return is the case of the promise that the tests before it decided.
 -- Assumes nothing.
 use borrow.Author.Needs.{needs}
-use mathlib.Core.Path.{_≡_, refl, sym, ap, _∙_}
-use mathlib.Core.Bool.{Bool, true, false}
+use mathlib.Core.Path.{_≡_, sym, ap, _∙_}
+use mathlib.Core.Bool.{false}
 use mathlib.Core.List.{List}
 use Prim.Native.Nat.{ℕ, _^_, _≤_}
 use native.Mathlib.Omega.{arith}
@@ -10,7 +10,6 @@ use lib.Pow.{pow-mono}
 use denote.Ref.{now}
 use Rattle.reader.specs.Limits.{tooLong}
 use Rattle.reader.proofs.RefusalLaws.{not-good}
-use Rattle.reader.proofs.StaticLaws.{static}
 use Rattle.automaton.specs.Limits.{nameLimit, numberLimit}
 use Rattle.automaton.specs.Alphabet.{badAlphabet}
 use Rattle.automaton.specs.Bits.{ofBits}
@@ -18,7 +17,7 @@ use Rattle.automaton.specs.Valuation.{value}
 use Rattle.automaton.specs.Condition.{maskOf}
 use Rattle.automaton.proofs.AlphabetLaws.{inputs-fit, power-is}
 use Rattle.automaton.proofs.ReadLaws.{Represented, read-represents}
-use Rattle.automaton.proofs.ConditionLaws.{by-alphabet, by-length, by-reading, by-mask}
+use Rattle.automaton.proofs.ConditionLaws.{by-alphabet, by-length, by-reading, by-empty, by-mask}
 use Rattle.automaton.proofs.condition.read_condition.Statement.{statement}
 use Rattle.automaton.proofs.condition.read_condition.Tie as tie
 
@@ -101,16 +100,35 @@ condition-mask-requires c κs =
     let m : 2 ^ z .i ≤ numberLimit = pow-mono {j = nameLimit} h in
     (omega (arith, v .few-nodes, v .count), omega (arith, inputs-are c))
 
-returns-4 : tie.Need-returns-4
+-- the mask is the condition's
+abbrev good : tie.After-condition-mask → tie.After-known-told
+good c = c .before .before .before
+
+mask-is : (c : tie.After-condition-mask) → c .condition-mask .result ≡ maskOf (represented (good c) .formula) (begin (good c) .args .i)
 unfolding maskOf
+mask-is c =
+    let v = represented (good c) in
+    c .condition-mask .ensures (v .formula) (v .represents) ∙ ap (ofBits (λ x. value (v .formula) 1 x 0)) (inputs-are (c .before))
+
+returns-4 : tie.Need-returns-4
 returns-4 c =
-    let p = c .before in
-    let k = p .before .before in
+    let m = c .before in
+    let k = good m in
     let z = begin k .args in
     let e = k .before .before .before .before .before in
     let v = represented k in
-    by-mask (z .i) (now (z .text)) (fits e) (short e) (count k) (v .reading) (v .formula) (v .good) (static 0 (v .good .reads)) (c .condition-mask .result)
-    (c .condition-mask .ensures (v .formula) (v .represents) ∙ ap (ofBits (λ x. value (v .formula) 1 x 0)) (inputs-are p))
+    by-empty (z .i) (now (z .text)) (fits e) (short e) (count k) (v .reading) (v .formula) (v .good) (m .condition-mask .result) (mask-is m)
+    (c .if3 .taken)
+
+returns-5 : tie.Need-returns-5
+returns-5 c =
+    let m = c .before in
+    let k = good m in
+    let z = begin k .args in
+    let e = k .before .before .before .before .before in
+    let v = represented k in
+    by-mask (z .i) (now (z .text)) (fits e) (short e) (count k) (v .reading) (v .formula) (v .good) (m .condition-mask .result) (mask-is m)
+    (c .if3 .left)
 
 pub read-condition-spec : {M : Type 1} → statement M
 read-condition-spec =
@@ -127,4 +145,5 @@ read-condition-spec =
     returns-3
     power-requires
     condition-mask-requires
-    returns-4)
+    returns-4
+    returns-5)

@@ -9,9 +9,10 @@ use lib.Seq.{length-take-le}
 use denote.Ref.{now}
 use Rattle.plays.specs.Arena.{Arena}
 use Rattle.game.specs.inner.Game.{arenaAt}
-use Rattle.game.specs.Given.{shortRead, shortTables, moveCount}
+use Rattle.game.specs.Given.{shortRead, shortTables, badMask, moveCount}
 use Rattle.game.proofs.CheckLaws.{transitions-long}
-use Rattle.game.proofs.GivenLaws.{read-refused, tables-refused, state-refused, move-refused, mask-refused, none-refused}
+use Rattle.game.proofs.GivenLaws.{read-refused, tables-refused, state-refused, move-refused, mask-refused, unmet-refused, none-refused}
+use Rattle.game.proofs.MetLaws.{empty-mask, some-mask}
 use Rattle.game.proofs.given.later_refusal.Statement.{statement}
 use Rattle.game.proofs.given.later_refusal.Tie as tie
 
@@ -27,6 +28,13 @@ read-no c = sym (c .before .before .before .before .short-read .ensures) ∙ c .
 
 tables-no : (c : tie.Else3) → shortTables (G (start-of c)) (now (start-of c .args .system)) (now (start-of c .args .environment)) ≡ false
 tables-no c = sym (c .before .before .short-tables .ensures) ∙ c .before .if2 .left
+
+-- the mask has no bit too high
+abbrev moves-of : tie.Else5 → tie.Else3
+moves-of c = c .before .before .before .before .before .before
+
+mask-no : (c : tie.Else5) → badMask (G (start-of (moves-of c))) ≡ false
+mask-no c = sym (c .before .bad-mask .ensures) ∙ c .if5 .left
 
 pub later-refusal-spec : {M : Type 1} → statement M
 later-refusal-spec =
@@ -67,8 +75,16 @@ later-refusal-spec =
     mask-refused (z .args .start) (G z) (now (z .args .system)) (now (z .args .environment)) (read-no k) (tables-no k) (k .if3 .left)
     (f .first-over .result) (f .first-over .ensures) (c .before .before .if4 .left) (sym (c .before .bad-mask .ensures) ∙ c .if5 .taken))
     (λ c.
-    let f = c .before .before .before in
-    let k = f .before .before .before in
+    let m = c .before in
+    let f = m .before .before .before in
+    let k = moves-of m in
+    let z = start-of k in
+    unmet-refused (z .args .start) (G z) (now (z .args .system)) (now (z .args .environment)) (read-no k) (tables-no k) (k .if3 .left)
+    (f .first-over .result) (f .first-over .ensures) (m .before .before .if4 .left) (mask-no m) (empty-mask (G z) (c .if6 .taken)))
+    (λ c.
+    let m = c .before in
+    let f = m .before .before .before in
+    let k = moves-of m in
     let z = start-of k in
     none-refused (z .args .start) (G z) (now (z .args .system)) (now (z .args .environment)) (read-no k) (tables-no k) (k .if3 .left)
-    (f .first-over .result) (f .first-over .ensures) (c .before .before .if4 .left) (sym (c .before .bad-mask .ensures) ∙ c .if5 .left)))
+    (f .first-over .result) (f .first-over .ensures) (m .before .before .if4 .left) (mask-no m) (some-mask (G z) (mask-no m) (c .if6 .left))))

@@ -154,15 +154,15 @@ module _ (i : ℕ) (text : List ℕ) where
 
       -- a good text: its formula, which has no temporal operator, and its mask
       module _ (m : ℕ) (r : ReadingOf i (conditionKind i) text (Good m)) (κ : Formula) (g : IsGood i (conditionKind i) text κ) (n : ℕ) (u : n ≡ maskOf κ i) where
-        pub by-empty : n ≡ 0 → Conditioned i text (Refused Unsatisfiable)
+        by-empty : n ≡ 0 → Conditioned i text (Refused Unsatisfiable)
         unfolding conditionRefusal
         by-empty z =
             let w = empty-none κ g .0 (let e : maskOf κ i ≡ 0 = sym u ∙ z in rw e) in
             refused (Good m) r true (λ _. w, λ _. refl) Unsatisfiable refl (rw (p, q))
 
-        pub by-mask : (n ≡ 0 → ⊥) → Conditioned i text (Mask n)
+        by-some : (n ≡ 0 → ⊥) → Conditioned i text (Mask n)
         unfolding conditionRefusal
-        by-mask some =
+        by-some some =
             record {
               reading = Good m;
               read = r;
@@ -178,3 +178,7 @@ module _ (i : ℕ) (text : List ℕ) where
               refused = λ z. absurd (z refl);
               served = λ _. record { formula = κ; good = g; answer = ap Mask u; judges = mask-judges κ i (static 0 (g .reads)) };
             }
+
+        -- so the mask decides
+        pub by-mask : (n ≡ 0 → Conditioned i text (Refused Unsatisfiable)) × ((n ≡ 0 → ⊥) → Conditioned i text (Mask n))
+        by-mask = (by-empty, by-some)

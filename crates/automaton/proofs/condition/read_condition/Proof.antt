@@ -8,16 +8,18 @@ use Prim.Native.Nat.{ℕ, _^_, _≤_}
 use native.Mathlib.Omega.{arith}
 use lib.Pow.{pow-mono}
 use denote.Ref.{now}
+use Rattle.reader.specs.declared.refusal.Refusal.the-variants.{Unsatisfiable}
 use Rattle.reader.specs.Limits.{tooLong}
 use Rattle.reader.proofs.RefusalLaws.{not-good}
 use Rattle.automaton.specs.Limits.{nameLimit, numberLimit}
 use Rattle.automaton.specs.Alphabet.{badAlphabet}
 use Rattle.automaton.specs.Bits.{ofBits}
 use Rattle.automaton.specs.Valuation.{value}
-use Rattle.automaton.specs.Condition.{maskOf}
+use Rattle.automaton.specs.declared.condition.Assumption.the-variants.{Mask, Refused}
+use Rattle.automaton.specs.Condition.{maskOf, Conditioned}
 use Rattle.automaton.proofs.AlphabetLaws.{inputs-fit, power-is}
 use Rattle.automaton.proofs.ReadLaws.{Represented, read-represents}
-use Rattle.automaton.proofs.ConditionLaws.{by-alphabet, by-length, by-reading, by-empty, by-mask}
+use Rattle.automaton.proofs.ConditionLaws.{by-alphabet, by-length, by-reading, by-mask}
 use Rattle.automaton.proofs.condition.read_condition.Statement.{statement}
 use Rattle.automaton.proofs.condition.read_condition.Tie as tie
 
@@ -110,25 +112,23 @@ mask-is c =
     let v = represented (good c) in
     c .condition-mask .ensures (v .formula) (v .represents) ∙ ap (ofBits (λ x. value (v .formula) 1 x 0)) (inputs-are (c .before))
 
-returns-4 : tie.Need-returns-4
-returns-4 c =
-    let m = c .before in
-    let k = good m in
+-- and decides
+judged : (c : tie.After-condition-mask)
+    → (c .condition-mask .result ≡ 0 → Conditioned (begin (good c) .args .i) (now (begin (good c) .args .text)) (Refused Unsatisfiable))
+    × ((c .condition-mask .result ≡ 0 → ⊥)
+    → Conditioned (begin (good c) .args .i) (now (begin (good c) .args .text)) (Mask (c .condition-mask .result)))
+judged c =
+    let k = good c in
     let z = begin k .args in
     let e = k .before .before .before .before .before in
     let v = represented k in
-    by-empty (z .i) (now (z .text)) (fits e) (short e) (count k) (v .reading) (v .formula) (v .good) (m .condition-mask .result) (mask-is m)
-    (c .if3 .taken)
+    by-mask (z .i) (now (z .text)) (fits e) (short e) (count k) (v .reading) (v .formula) (v .good) (c .condition-mask .result) (mask-is c)
+
+returns-4 : tie.Need-returns-4
+returns-4 c = judged (c .before) .0 (c .if3 .taken)
 
 returns-5 : tie.Need-returns-5
-returns-5 c =
-    let m = c .before in
-    let k = good m in
-    let z = begin k .args in
-    let e = k .before .before .before .before .before in
-    let v = represented k in
-    by-mask (z .i) (now (z .text)) (fits e) (short e) (count k) (v .reading) (v .formula) (v .good) (m .condition-mask .result) (mask-is m)
-    (c .if3 .left)
+returns-5 c = judged (c .before) .1 (c .if3 .left)
 
 pub read-condition-spec : {M : Type 1} → statement M
 read-condition-spec =

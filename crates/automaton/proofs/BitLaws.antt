@@ -2,7 +2,7 @@
 use Prim.Native.Nat.{ℕ, zero, suc, _+_, _-_, _*_, _/_, _%_, _^_, _≤_, _<_}
 use mathlib.Core.Path.{_≡_, refl, sym, ap, ap₂, _∙_, subst}
 use mathlib.Core.Bool.{Bool, true, false, not, _&&_, _||_}
-use mathlib.Core.List.{List, [], _∷_}
+use mathlib.Core.List.{List}
 use mathlib.Core.Logic.{⊎-elim}
 use native.Mathlib.Nat.{mul-add-mod-self-right, mod-eq-of-lt, pow-suc, mul-comm, mul-assoc, add-comm, le-refl, lt-of-lt-of-le}
 use native.Mathlib.Nat.{le-of-suc-le-suc, not-suc-le-zero, eq-or-lt-of-le, le-step, add-mul-div-right, add-mul-mod-self-right, div-eq-of-lt, sub-add-cancel}
@@ -40,7 +40,7 @@ above x y d k =
     ∙ ap (λ (m : ℕ). (y / 2 ^ k + m) % 2) (ap (λ (m : ℕ). x * m) (pow-suc 2 d) ∙ sym (mul-assoc x (2 ^ d) 2))
     ∙ add-mul-mod-self-right (y / 2 ^ k) (x * 2 ^ d) 2
 
-above′ : (x y n k : ℕ) → k < n → (x * 2 ^ n + y) / 2 ^ k % 2 ≡ y / 2 ^ k % 2
+pub above′ : (x y n k : ℕ) → k < n → (x * 2 ^ n + y) / 2 ^ k % 2 ≡ y / 2 ^ k % 2
 above′ x y n k h =
     let e : suc (n - suc k) + k ≡ n = omega arith in
     subst (λ (m : ℕ). (x * 2 ^ m + y) / 2 ^ k % 2 ≡ y / 2 ^ k % 2) e (above x y (n - suc k) k)

@@ -1,5 +1,5 @@
 pub mod BitLaws
-pub mod TableLaws
+pub mod CoordinateWordLaws
 pub mod ArrayLaws
 pub mod StepLaws
 pub mod ValuationLaws

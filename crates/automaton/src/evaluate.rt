@@ -8,13 +8,11 @@ ghost use Rattle.automaton.specs.Bits.{bit, ofBits};
 ghost use Rattle.automaton.specs.inner.Evaluation.{nodeWord, Evaluated};
 use crate::bits::WORD_BITS;
 use crate::bits::test_bit;
+use crate::coordinates::ALL;
 use crate::coordinates::coordinate;
 use crate::limits::ARGUMENT_UNIT;
 use reader::limits::FIELD_SIZE;
 use reader::limits::NODE_LIMIT;
-
-// All valuations.
-const ALL: u64 = 0xFFFF_FFFF_FFFF_FFFF;
 
 // One less, and 0 for 0.
 pub(crate) fn less_one(i: usize) -> usize
@@ -48,18 +46,17 @@ fn name_word(letter: u64, argument: usize) -> u64
 fn node_word(kind: usize, argument: usize, letter: u64, left: u64, right: u64) -> u64
     ensures { λ r. ⌜ r ≡ nodeWord kind argument letter left right ⌝ }
 {
-    let c = coordinate(argument);
     match kind {
         0 => 0,
         1 => ALL,
         2 => name_word(letter, argument),
         3 => right ^ ALL,
-        4 => c,
-        5 => c,
-        6 => right | c,
-        7 => right & c,
-        8 => right | (left & c),
-        9 => right & (left | c),
+        4 => coordinate(argument),
+        5 => coordinate(argument),
+        6 => right | coordinate(argument),
+        7 => right & coordinate(argument),
+        8 => right | (left & coordinate(argument)),
+        9 => right & (left | coordinate(argument)),
         10 => left & right,
         11 => left | right,
         _ => (left ^ ALL) | right,

@@ -6,6 +6,7 @@ ghost use lib.ListN.{length};
 ghost use Rattle.automaton.specs.Limits.{letterLimit};
 ghost use Rattle.automaton.specs.inner.Sizes.{pairLimit, slotCount};
 ghost use Rattle.automaton.specs.inner.Representation.{SameRow, Twins};
+use crate::bits::WORD_BITS;
 use crate::bytes::wide;
 use crate::limits::ENTRY_LIMIT;
 use crate::limits::LETTER_LIMIT;
@@ -13,8 +14,8 @@ use crate::limits::PAIR_LIMIT;
 use crate::limits::SLOT_COUNT;
 use crate::limits::TABLE_SIZE;
 
-// What is kept of a key, so that one more entry fits into the word: 56 bits.
-const KEYS: usize = 0x100_0000_0000_0000;
+// Half a word. What is kept of a key before one more entry is added is its low half.
+const HALF: usize = WORD_BITS / 2;
 
 // Whether the rows of two letters are equal.
 fn same_row(table: &[u8; TABLE_SIZE], entries: usize, a: usize, b: usize) -> bool
@@ -43,7 +44,7 @@ fn slot_of(table: &[u8; TABLE_SIZE], entries: usize, letter: usize) -> usize
     let mut k: usize = 0;
     while k < entries {
         let entry = table[row + k] % ENTRY_LIMIT;
-        key = (key % KEYS) * 127 + entry as usize;
+        key = (key << HALF >> HALF) * 127 + entry as usize;
         k += 1;
     }
     key % SLOT_COUNT

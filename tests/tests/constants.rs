@@ -1,29 +1,29 @@
-//! docs/DECISIONS.md, "The word of a coordinate": of the numbers that stand in the code of the crates, all ones alone has
-//! more than 32 bits.
+//! docs/DECISIONS.md, "The word of a coordinate": of the numbers that are written out in the code of the crates, all ones
+//! alone has more than 32 bits. What the compiler makes of expressions is looked up in the library (c/check).
 
 use std::fs;
 use std::path::Path;
 
 /// The endings that name a number's type.
-const TYPES: [&str; 5] = ["usize", "u64", "u32", "u16", "u8"];
+const TYPES: [&str; 11] = ["usize", "isize", "u128", "u64", "i64", "u32", "i32", "u16", "i16", "u8", "i8"];
 
 /// The number that a word of the code writes out, if it is one.
-fn number(word: &str) -> Option<u64> {
+fn number(word: &str) -> Option<u128> {
     let digits = TYPES.iter().find_map(|ending| word.strip_suffix(ending)).unwrap_or(word).replace('_', "");
     let bases = [("0x", 16), ("0o", 8), ("0b", 2)];
     let (start, base) = bases.into_iter().find(|(start, _)| digits.starts_with(start)).unwrap_or(("", 10));
-    u64::from_str_radix(&digits[start.len()..], base).ok()
+    u128::from_str_radix(&digits[start.len()..], base).ok()
 }
 
 /// The numbers of a source that have more than 32 bits, its comments left out.
-fn long_numbers(source: &str) -> Vec<u64> {
+fn long_numbers(source: &str) -> Vec<u128> {
     let code = source.lines().map(|line| line.split("//").next().unwrap());
     let words = code.flat_map(|line| line.split(|c: char| !c.is_alphanumeric() && c != '_'));
-    words.filter_map(number).filter(|&found| found > u64::from(u32::MAX)).collect()
+    words.filter_map(number).filter(|&found| found > u128::from(u32::MAX)).collect()
 }
 
 /// The files of code below a folder, with the numbers of more than 32 bits in each that has some.
-fn files(folder: &Path, found: &mut Vec<(String, Vec<u64>)>) {
+fn files(folder: &Path, found: &mut Vec<(String, Vec<u128>)>) {
     for path in fs::read_dir(folder).unwrap().map(|entry| entry.unwrap().path()) {
         if path.is_dir() {
             files(&path, found);
@@ -40,7 +40,7 @@ fn files(folder: &Path, found: &mut Vec<(String, Vec<u64>)>) {
 fn all_ones_alone_is_long() {
     let mut found = Vec::new();
     files(&Path::new(env!("CARGO_MANIFEST_DIR")).join("../crates"), &mut found);
-    assert_eq!(found, [("coordinates.rt".to_string(), vec![u64::MAX])]);
+    assert_eq!(found, [("coordinates.rt".to_string(), vec![u128::from(u64::MAX)])]);
 }
 
 #[test]

@@ -1,4 +1,4 @@
--- The valuations whose coordinate j is 1, as a number: the formula that the code computes is that number, for any j and any number of valuations that coordinates make.
+-- The valuations whose coordinate j is 1, as a number: the formula that the code computes is that number, for any of any number of coordinates.
 -- Assumes nothing.
 use Prim.Native.Nat.{ℕ, zero, suc, _+_, _-_, _*_, _/_, _%_, _^_, _≤_, _<_}
 use mathlib.Core.Path.{_≡_, refl, sym, ap, ap₂, _∙_, subst}

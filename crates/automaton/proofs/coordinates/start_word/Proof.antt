@@ -2,7 +2,7 @@
 use Prim.Native.Nat.{ℕ, _/_, _%_, _≤_, _<_}
 use native.Mathlib.Omega.{arith}
 use lib.Pow.{pow-pos}
-use mathlib.Core.Path.{_≡_, sym, ap, ap₂, _∙_}
+use mathlib.Core.Path.{_≡_, ap, ap₂, _∙_}
 use Rattle.automaton.specs.Bits.{bit, ofBits}
 use Rattle.automaton.specs.inner.Sizes.{vectorLimit, wordBits}
 use Rattle.automaton.proofs.BitLaws.{ofBits-mod, bit-shifted}

@@ -1,5 +1,6 @@
 //! docs/PROMISES.md, docs/THEORY.md and docs/DECISIONS.md cite definitions and theorems by the letter of a crate
 //! and a file, and must-fail edits by crate and name. What they cite is there, and every edit is cited.
+//! What an edit replaces stands once in its file.
 
 use std::collections::BTreeSet;
 use std::fs;
@@ -104,6 +105,21 @@ fn edits() -> BTreeSet<String> {
     found
 }
 
+/// The texts that an edit replaces, each with how often it stands in its file.
+fn replaced(edit: &str) -> Vec<(String, usize)> {
+    let (crate_name, name) = edit.split_once('/').unwrap();
+    let folder = root().join("crates").join(crate_name);
+    let (mut source, mut found) = (String::new(), Vec::new());
+    for line in fs::read_to_string(folder.join(format!("must-fail/{name}.edit"))).unwrap().lines() {
+        if let Some(file) = line.strip_prefix("file: ") {
+            source = fs::read_to_string(folder.join(file)).unwrap();
+        } else if let Some(old) = line.strip_prefix("old: ") {
+            found.push((old.to_string(), source.matches(old).count()));
+        }
+    }
+    found
+}
+
 /// The texts in backticks that are a crate's name, a slash and a word.
 fn cited_edits(text: &str) -> BTreeSet<String> {
     let is_crate = |name: &str| root().join("crates").join(name).join("must-fail").is_dir();
@@ -128,6 +144,14 @@ fn what_the_documents_cite_is_there() {
 fn the_edits_are_those_that_are_cited() {
     let text = fs::read_to_string(root().join("docs/PROMISES.md")).unwrap();
     assert_eq!(cited_edits(&text), edits());
+}
+
+#[test]
+fn what_an_edit_replaces_stands_once() {
+    for edit in edits() {
+        let texts = replaced(&edit);
+        assert!(!texts.is_empty() && texts.iter().all(|&(_, count)| count == 1), "{edit}: {texts:?}");
+    }
 }
 
 #[test]

@@ -4,8 +4,8 @@ use mathlib.Core.Path.{_≡_, refl, sym, ap, ap₂, _∙_, subst}
 use mathlib.Core.Bool.{Bool, true, false, not, _&&_, _||_}
 use mathlib.Core.List.{List}
 use mathlib.Core.Logic.{⊎-elim}
-use native.Mathlib.Nat.{mul-add-mod-self-right, mod-eq-of-lt, pow-suc, mul-comm, mul-assoc, add-comm, le-refl, lt-of-lt-of-le}
-use native.Mathlib.Nat.{le-of-suc-le-suc, not-suc-le-zero, eq-or-lt-of-le, le-step, add-mul-div-right, add-mul-mod-self-right, div-eq-of-lt, sub-add-cancel}
+use native.Mathlib.Nat.{mul-add-mod-self-right, mod-eq-of-lt, pow-suc, mul-comm, mul-assoc, add-mul, add-comm, add-zero, add-suc, le-refl, lt-of-lt-of-le}
+use native.Mathlib.Nat.{le-of-suc-le-suc, not-suc-le-zero, eq-or-lt-of-le, le-step, add-mul-div-right, add-mul-mod-self-right, div-eq-of-lt}
 use native.Mathlib.Nat.{div-lt-iff-lt-mul}
 use native.Mathlib.Omega.{arith}
 use native.Mathlib.Numerals.{add-one}
@@ -71,6 +71,25 @@ ofBits-none f zero h = refl
 ofBits-none f (suc n) h =
     let e : 0 * 2 ^ n + 0 ≡ 0 = omega arith in
     ap₂ (λ (b : Bool) (m : ℕ). one b * 2 ^ n + m) (h n (le-refl (suc n))) (ofBits-none f n (λ k l. h k (le-step l))) ∙ e
+
+-- a number from two parts of its bits
+pub ofBits-append : (f : ℕ → Bool) (n m : ℕ) → ofBits f (n + m) ≡ ofBits (λ v. f (n + v)) m * 2 ^ n + ofBits f n
+unfolding ofBits
+ofBits-append f n zero = ap (ofBits f) (add-zero n) ∙ omega arith
+ofBits-append f n (suc m) =
+    ap (ofBits f) (add-suc n m)
+    ∙ ap₂ (λ (x y : ℕ). one (f (n + m)) * x + y) (pow-add 2 n m ∙ mul-comm (2 ^ n) (2 ^ m)) (ofBits-append f n m)
+    ∙ omega (arith, mul-assoc (one (f (n + m))) (2 ^ m) (2 ^ n), add-mul (one (f (n + m)) * 2 ^ m) (ofBits (λ v. f (n + v)) m) (2 ^ n))
+
+-- and with the number of the other bits
+pub ofBits-others : (f : ℕ → Bool) (n : ℕ) → ofBits f n + ofBits (λ k. not (f k)) n + 1 ≡ 2 ^ n
+unfolding ofBits
+ofBits-others f zero = refl
+ofBits-others f (suc n) = split (f n) (ofBits f n) (ofBits (λ k. not (f k)) n) (ofBits-others f n) ∙ sym (pow-suc 2 n)
+  where
+    split : (b : Bool) (x y : ℕ) → x + y + 1 ≡ 2 ^ n → one b * 2 ^ n + x + (one (not b) * 2 ^ n + y) + 1 ≡ 2 ^ n * 2
+    split true x y e = omega arith
+    split false x y e = omega arith
 
 pub bit-zero : (k : ℕ) → bit 0 k ≡ false
 bit-zero k = bit-high 0 0 k (pow-pos 0) (omega arith)
@@ -157,14 +176,9 @@ set-shifted x k b hk hb hx = ap (bitOr x) (shl-exact 1 k wordBits hb (omega arit
 pub set-pair-shifted : (x k b : ℕ) → 2 * k < wordBits → b < 2 → x < 2 ^ (2 * k) → bitOr x (3 * b * 2 ^ (2 * k) % 2 ^ 64) ≡ 3 * b * 2 ^ (2 * k) + x
 set-pair-shifted x k b hk hb hx = ap (bitOr x) (shl-exact 2 (2 * k) wordBits (omega arith) (omega arith)) ∙ or-shifted-r (3 * b) (2 * k) x hx
 
-none : (n : ℕ) → ofBits (λ v. false) n ≡ 0
-unfolding ofBits
-none zero = refl
-none (suc n) = omega (arith, none n)
-
 -- no valuation has a coordinate beyond the limit
 pub no-coordinate : (j : ℕ) → coordinateLimit ≤ j → ofBits (λ v. bit v j) vectorLimit ≡ 0
-no-coordinate j h = ofBits-ext (λ v. bit v j) (λ v. false) vectorLimit (λ v l. bit-high v coordinateLimit j l h) ∙ none vectorLimit
+no-coordinate j h = ofBits-none (λ v. bit v j) vectorLimit (λ v l. bit-high v coordinateLimit j l h)
 
 -- the turn of a loop that makes a word: bit n, as a number, is put above the bits below n
 pub ofBits-step : (f : ℕ → Bool) (n x b : ℕ) → x ≡ ofBits f n → b ≡ one (f n) → b * 2 ^ n + x ≡ ofBits f (n + 1)
@@ -189,17 +203,12 @@ pair-step f k x b ex eb =
     triple : (b n x : ℕ) → 3 * b * 2 ^ n + x ≡ b * 2 ^ suc n + (b * 2 ^ n + x)
     triple b n x = omega (arith, mul-assoc 3 b (2 ^ n), mul-assoc b (2 ^ n) 2, ap (λ (m : ℕ). b * m) (pow-suc 2 n))
 
-all : (n : ℕ) → ofBits (λ v. true) n + 1 ≡ 2 ^ n
-unfolding ofBits
-all zero = refl
-all (suc n) = rw pow-suc (omega (arith, all n))
-
 -- a word whose bits are all one bit
 pub same-false : (b : Bool) → b ≡ false → 0 ≡ ofBits (λ v. b) vectorLimit
-same-false b e = sym (ap (λ (x : Bool). ofBits (λ v. x) vectorLimit) e ∙ none vectorLimit)
+same-false b e = sym (ofBits-none (λ v. b) vectorLimit (λ k l. e))
 
 pub same-true : (b : Bool) → b ≡ true → 0xFFFF_FFFF_FFFF_FFFF ≡ ofBits (λ v. b) vectorLimit
-same-true b e = omega (arith, all vectorLimit, ap (λ (x : Bool). ofBits (λ v. x) vectorLimit) e)
+same-true b e = omega (arith, ofBits-others (λ v. b) vectorLimit, ofBits-none (λ v. not b) vectorLimit (λ k l. ap not e))
 
 pub one-true : (b : Bool) → one b ≡ 1 → b ≡ true
 one-true true e = refl
@@ -224,20 +233,12 @@ half-shifted w n h e =
     let double : 2 ^ w ≡ 2 ^ n * 2 = ap (λ (i : ℕ). 2 ^ i) e ∙ pow-suc 2 n in
     omega (arith, one-shifted w h)
 
--- what stands from bit k on does not change the bits below it
-cut : (x y n k : ℕ) → k ≤ n → (x * 2 ^ n + y) % 2 ^ k ≡ y % 2 ^ k
-cut x y n k h =
-    let e : 2 ^ n ≡ 2 ^ (n - k) * 2 ^ k = ap (λ (m : ℕ). 2 ^ m) (sym (sub-add-cancel h)) ∙ pow-add 2 (n - k) k in
-    ap (λ (m : ℕ). (m + y) % 2 ^ k) (ap (λ (m : ℕ). x * m) e ∙ sym (mul-assoc x (2 ^ (n - k)) (2 ^ k))) ∙ mul-add-mod-self-right (x * 2 ^ (n - k)) (2 ^ k) y
-
 -- the low bits of a word
 pub ofBits-mod : (f : ℕ → Bool) (n k : ℕ) → k ≤ n → ofBits f n % 2 ^ k ≡ ofBits f k
-unfolding ofBits
-ofBits-mod f zero k h = let e : k ≡ 0 = omega arith in subst (λ (i : ℕ). 0 % 2 ^ i ≡ ofBits f i) (sym e) refl
-ofBits-mod f (suc n) k h =
-    ⊎-elim (λ e. subst (λ (i : ℕ). ofBits f (suc n) % 2 ^ i ≡ ofBits f i) (sym e) (mod-eq-of-lt (ofBits-lt f (suc n))))
-    (λ l. cut (one (f n)) (ofBits f n) n k (le-of-suc-le-suc l) ∙ ofBits-mod f n k (le-of-suc-le-suc l))
-    (eq-or-lt-of-le h)
+ofBits-mod f n k h =
+    let e : n ≡ k + (n - k) = omega arith in
+    ap (λ (m : ℕ). ofBits f m % 2 ^ k) e ∙ ap (λ (m : ℕ). m % 2 ^ k) (ofBits-append f k (n - k))
+    ∙ mul-add-mod-self-right (ofBits (λ v. f (k + v)) (n - k)) (2 ^ k) (ofBits f k) ∙ mod-eq-of-lt (ofBits-lt f k)
 
 -- `1 << k`
 pub bit-shifted : (k : ℕ) → k < wordBits → 1 * 2 ^ k % 2 ^ 64 ≡ 2 ^ k

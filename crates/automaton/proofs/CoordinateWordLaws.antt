@@ -1,17 +1,17 @@
 -- The valuations whose coordinate j is 1, as a number: the formula that the code computes is that number, for any of any number of coordinates.
 -- Assumes nothing.
 use Prim.Native.Nat.{ℕ, zero, suc, _+_, _-_, _*_, _/_, _%_, _^_, _≤_, _<_}
-use mathlib.Core.Path.{_≡_, refl, sym, ap, ap₂, _∙_, subst}
-use mathlib.Core.Bool.{Bool, true, false, not}
-use native.Mathlib.Nat.{pow-suc, add-comm, mul-comm, mul-assoc, add-mul, mul-add, add-mul-div-right, le-refl, add-suc, add-zero, sub-add-cancel}
+use mathlib.Core.Path.{_≡_, sym, ap, ap₂, _∙_, subst}
+use mathlib.Core.Bool.{true, not}
+use native.Mathlib.Nat.{pow-suc, add-comm, mul-comm, add-mul, mul-add, add-mul-div-right, le-refl, sub-add-cancel}
 use native.Mathlib.Nat.{div-eq-of-eq-mul-left, mul-div-le, mul-le-mul-right, le-trans}
 use native.Mathlib.Omega.{arith}
 use lib.Dec.{eqb}
 use lib.Pow.{pow-pos, pow-add, pow-mono}
 use Rattle.reader.specs.Limits.{operatorLimit}
 use Rattle.automaton.specs.inner.Sizes.{coordinateLimit, wordBits}
-use Rattle.automaton.specs.Bits.{bit, one, ofBits}
-use Rattle.automaton.proofs.BitLaws.{ofBits-ext, ofBits-none, bit-high, above′, one-shifted, bit-shifted}
+use Rattle.automaton.specs.Bits.{bit, ofBits}
+use Rattle.automaton.proofs.BitLaws.{ofBits-ext, ofBits-none, ofBits-append, ofBits-others, bit-high, above′, one-shifted, bit-shifted}
 
 -- ---- bits of sums
 turn : (x : ℕ) → eqb ((x + 1) % 2) 1 ≡ not (eqb (x % 2) 1)
@@ -29,24 +29,6 @@ bit-turns v j =
     let e : v + 2 ^ j ≡ v + 1 * 2 ^ j = omega arith in
     ap (λ (m : ℕ). eqb (m / 2 ^ j % 2) 1) e
     ∙ ap (λ (m : ℕ). eqb (m % 2) 1) (add-mul-div-right v 1 (pow-pos j)) ∙ turn (v / 2 ^ j)
-
--- ---- a number from two parts of its bits, and the number of the other bits
-ofBits-append : (f : ℕ → Bool) (n m : ℕ) → ofBits f (n + m) ≡ ofBits (λ v. f (n + v)) m * 2 ^ n + ofBits f n
-unfolding ofBits
-ofBits-append f n zero = ap (ofBits f) (add-zero n) ∙ omega arith
-ofBits-append f n (suc m) =
-    ap (ofBits f) (add-suc n m)
-    ∙ ap₂ (λ (x y : ℕ). one (f (n + m)) * x + y) (pow-add 2 n m ∙ mul-comm (2 ^ n) (2 ^ m)) (ofBits-append f n m)
-    ∙ omega (arith, mul-assoc (one (f (n + m))) (2 ^ m) (2 ^ n), add-mul (one (f (n + m)) * 2 ^ m) (ofBits (λ v. f (n + v)) m) (2 ^ n))
-
-ofBits-others : (f : ℕ → Bool) (n : ℕ) → ofBits f n + ofBits (λ k. not (f k)) n + 1 ≡ 2 ^ n
-unfolding ofBits
-ofBits-others f zero = refl
-ofBits-others f (suc n) = split (f n) (ofBits f n) (ofBits (λ k. not (f k)) n) (ofBits-others f n) ∙ sym (pow-suc 2 n)
-  where
-    split : (b : Bool) (x y : ℕ) → x + y + 1 ≡ 2 ^ n → one b * 2 ^ n + x + (one (not b) * 2 ^ n + y) + 1 ≡ 2 ^ n * 2
-    split true x y e = omega arith
-    split false x y e = omega arith
 
 -- ---- coordinate j over m + 1 of its periods, each of 2 ^ j valuations without it and then 2 ^ j with it
 module _ (j m : ℕ) where

@@ -30,7 +30,7 @@ no_tick i o b k e n =
     (λ t. absurd (mathlib.Core.Bool.true≢false (ap is_other (let f : Other ≡ k = rw t at e in f) ∙ n)))
     (λ f. rw f)
 
-pub static : {i l : ℕ} (o : ℕ) {w : List ℕ} {φ : Formula} → Derives i (kind_in i o false) l w φ → operators φ ≡ 0
+pub static : {i : ℕ} (o : ℕ) {l : ℕ} {w : List ℕ} {φ : Formula} → Derives i (kind_in i o false) l w φ → operators φ ≡ 0
 unfolding operators
 static {i} o (operand {b = b} k e) = ap operators e ∙ operand_operators i b 0
 static {i} o (prefix {b = b} {φ = α} k x e) =

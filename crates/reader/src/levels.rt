@@ -12,7 +12,7 @@ use crate::marks::{
 };
 
 // How far a text is read: the place in the text, the nodes written, and the coordinate that is next.
-#[derive(Drop)]
+#[derive(Clone, Copy)]
 pub struct Pos {
     pub at: usize,
     pub nodes: usize,

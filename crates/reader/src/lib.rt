@@ -1,4 +1,6 @@
 // The reader: from a text to the nodes of its formula, or to the place of its first bad byte.
+#![tactic(auto)]
+
 mod levels;
 pub mod limits;
 mod marks;

@@ -6,7 +6,7 @@ ghost use Rattle.reader.specs.inner.Nodes.{unary_code, binary_code};
 ghost use Rattle.reader.specs.inner.Words.{operand_code, operand_argument};
 
 // What a byte is in a text. An infix mark has its level: 1 for U and R, 2 for &, 3 for |, 4 for >.
-#[derive(Drop)]
+#[derive(Clone, Copy)]
 pub enum Kind {
     Operand,
     Prefix,

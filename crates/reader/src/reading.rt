@@ -11,7 +11,7 @@ use crate::scan::{Scanned, scan};
 use crate::size::count;
 
 // What the reader answers on a text: good, with the number of its nodes; too long, whatever it is; bad, with the place; or over another limit.
-#[derive(Drop)]
+#[derive(Clone, Copy)]
 pub enum Reading {
     Good(usize),
     TooLong,

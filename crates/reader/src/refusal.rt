@@ -6,7 +6,7 @@ ghost use Rattle.reader.specs.Refusal.{number_of, place_of, needed_of, after_tex
 use crate::reading::Reading;
 
 // Why a call is refused. Nothing stands for no refusal.
-#[derive(Drop)]
+#[derive(Clone, Copy)]
 pub enum Refusal {
     Nothing,
     Alphabet,
@@ -26,7 +26,7 @@ pub enum Refusal {
 }
 
 // Whose text it is.
-#[derive(Drop)]
+#[derive(Clone, Copy)]
 pub enum Subject {
     Rule,
     Condition,

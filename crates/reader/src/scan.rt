@@ -6,14 +6,14 @@ ghost use Rattle.reader.specs.inner.Scan.{mark_step, step_of, scan_of};
 use crate::marks::{Kind, allowed, mark_kind};
 
 // Where the pass is after a byte: whether an operand is due, and how many parentheses are open; or that the byte cannot stand there.
-#[derive(Drop)]
+#[derive(Clone, Copy)]
 pub enum Step {
     Next(bool, usize),
     Stuck,
 }
 
 // What the pass finds: a whole text, or the place at which a text is bad.
-#[derive(Drop)]
+#[derive(Clone, Copy)]
 pub enum Scanned {
     Whole,
     Stopped(usize),

@@ -4,7 +4,7 @@ use listing::limits::{INPUT_SIZE, OUTPUT_SIZE};
 use listing::respond::respond;
 
 // What came of reading: so many bytes, or a failure.
-#[derive(Drop)]
+#[derive(Clone, Copy)]
 enum Received {
     Bytes(usize),
     Failed,

@@ -8,7 +8,7 @@ use reader::reading::{Reading, read, too_long};
 use reader::refusal::{Refusal, Subject, text_refusal};
 
 // The answer: the mask, bit x for input number x, or a refusal.
-#[derive(Drop)]
+#[derive(Clone, Copy)]
 pub enum Assumption {
     Mask(u16),
     Refused(Refusal),

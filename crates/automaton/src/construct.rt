@@ -22,7 +22,7 @@ use reader::reading::{Reading, read, too_long};
 use reader::refusal::{Refusal, Subject, text_refusal};
 
 // The answer: the number of states, or a refusal.
-#[derive(Drop)]
+#[derive(Clone, Copy)]
 pub enum Construction {
     Built(usize),
     Refused(Refusal),

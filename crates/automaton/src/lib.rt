@@ -1,4 +1,6 @@
 // The automaton of a rule, the mask of a condition, and the trial of a rule on a list of letters.
+#![tactic(auto)]
+
 pub mod alphabet;
 mod bits;
 pub mod bytes;

@@ -9,7 +9,7 @@ use reader::reading::{Reading, read, too_long};
 use reader::refusal::{Refusal, Subject, text_refusal};
 
 // The answer: whether the list satisfies the rule, or a refusal.
-#[derive(Drop)]
+#[derive(Clone, Copy)]
 pub enum Trial {
     Satisfied,
     Violated,

@@ -1,4 +1,6 @@
 // The calls of the engine for C: each answer of the library is written as numbers to places that the caller lends.
+#![tactic(auto)]
+
 mod flags;
 mod step;
 mod trial;

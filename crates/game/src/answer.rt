@@ -5,7 +5,7 @@ ghost use Rattle.game.specs.Answer.{verdict_of};
 use reader::refusal::Refusal;
 
 // The verdict with the number of states and, on "can", the round number, or a refusal.
-#[derive(Drop)]
+#[derive(Clone, Copy)]
 pub enum Answer {
     Can(usize, usize),
     Cannot(usize),

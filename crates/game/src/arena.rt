@@ -7,7 +7,7 @@ ghost use Rattle.game.specs.inner.Game.{Closed, Entered};
 use automaton::bytes::wide;
 
 // The numbers of states, inputs and outputs.
-#[derive(Drop)]
+#[derive(Clone, Copy)]
 pub struct Sizes {
     pub states: usize,
     pub inputs: usize,
@@ -15,7 +15,7 @@ pub struct Sizes {
 }
 
 // A game to be solved: the mode, the condition's mask, and the numbers of states, inputs and outputs.
-#[derive(Drop)]
+#[derive(Clone, Copy)]
 pub struct Game {
     pub fair: bool,
     pub mask: u16,

@@ -13,14 +13,14 @@ use automaton::bytes::wide;
 use reader::refusal::Refusal;
 
 // A place in a play: the state, and whether a goal was entered.
-#[derive(Drop)]
+#[derive(Clone, Copy)]
 pub struct Position {
     pub state: usize,
     pub reached: bool,
 }
 
 // The output with the next position, no row, or a refusal.
-#[derive(Drop)]
+#[derive(Clone, Copy)]
 pub enum Followed {
     Moved(u8, Position),
     NoRow,

@@ -1,4 +1,6 @@
 // The game on an automaton: the two tables, the call for a rule, the call for a given automaton, and the follower.
+#![tactic(auto)]
+
 pub mod answer;
 mod arena;
 mod checks;

@@ -144,7 +144,7 @@ fn between(low: Rank, high: Rank) -> Rank
 }
 
 // Needs and the limit with which they stand.
-#[derive(Drop)]
+#[derive(Clone, Copy)]
 pub struct Needs {
     pub ranks: [Rank; STATE_LIMIT],
     pub limit: Rank,

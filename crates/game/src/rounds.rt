@@ -10,7 +10,7 @@ use crate::search::{Limits, unserved};
 use automaton::limits::{NUMBER_LIMIT, STATE_LIMIT};
 
 // The ranks of both players, 0 for none.
-#[derive(Drop)]
+#[derive(Clone, Copy)]
 pub struct Ranks {
     pub system: [Rank; STATE_LIMIT],
     pub environment: [Rank; STATE_LIMIT],

@@ -17,7 +17,7 @@ use reader::reading::{Reading, check, too_long};
 use reader::refusal::{Refusal, Subject, text_refusal};
 
 // What the tests come to before the automaton is built: a refusal, or nothing and the condition's mask.
-#[derive(Drop)]
+#[derive(Clone, Copy)]
 pub struct Checked {
     pub refusal: Refusal,
     pub mask: u16,

@@ -11,7 +11,7 @@ use automaton::bytes::wide;
 use automaton::limits::{NUMBER_LIMIT, STATE_LIMIT};
 
 // The limits below which a rank counts: for a state that is won, and for one that is safe, which has such a rank or, where `inside` is false, has none.
-#[derive(Drop)]
+#[derive(Clone, Copy)]
 pub struct Limits {
     pub won: Rank,
     pub safe: Rank,

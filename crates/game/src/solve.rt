@@ -13,7 +13,7 @@ use automaton::limits::{NUMBER_LIMIT, STATE_LIMIT};
 
 // What the solver finds: the ranks of both players, the ranks by which the system's table goes first with their limit, which is read when stable alone, and the
 // round number, 0 where the system cannot.
-#[derive(Drop)]
+#[derive(Clone, Copy)]
 pub struct Solution {
     pub near: [Rank; STATE_LIMIT],
     pub system: [Rank; STATE_LIMIT],

@@ -1,4 +1,6 @@
 // What the program prints for its input.
+#![tactic(auto)]
+
 mod input;
 pub mod limits;
 pub mod list;

@@ -1,1 +1,2 @@
 // Machines that read letters: their discovery and their automata are theorems, without code.
+#![tactic(auto)]

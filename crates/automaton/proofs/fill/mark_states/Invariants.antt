@@ -1,0 +1,20 @@
+-- `automaton::fill::mark_states` meets its contract. The invariant: the flags below s are right, and those from s on are as they were.
+-- The measure is what is left of n. Assumes nothing.
+use Prim.Native.Nat.{ℕ, ◌-◌, ◌%◌, ◌≤◌, ◌<◌}
+use mathlib.Core.Path.{◌≡◌, refl, ◌∙◌, subst}
+use native.Mathlib.Nat.{not-suc-le-zero, mod-eq_of_lt}
+use native.Mathlib.Omega.{arith}
+use lib.ListN.{get_or}
+use borrow.Author.Rules.{rules}
+use Rattle.automaton.specs.Bits.{bit, one}
+use Rattle.automaton.specs.Buffer.{Kept}
+use Rattle.automaton.proofs.BitLaws.{one_lt}
+use Rattle.automaton.proofs.ArrayLaws.{stored_more}
+use Rattle.automaton.proofs.FillingLaws.{kept_stored}
+use Rattle.automaton.proofs.fill.mark_states.Given as goal
+
+abbrev pub invariant-loop-s : goal.invariant-loop-s
+invariant-loop-s l = (l.s ≤ l.n) × Kept l.s l.initial.accepting l.accepting × ((u : ℕ) → u < l.s → get_or l.accepting u 0 ≡ one (bit (get_or l.list u 0) l.end))
+
+abbrev pub decreases-loop-s : goal.decreases-loop-s
+decreases-loop-s l = l.n - l.s

@@ -1,0 +1,13 @@
+-- `game::tables::decide` meets its contract: both tables are filled by the solver's ranks, and the round number is the solver's.
+-- Assumes nothing.
+use Rattle.std.proofs.Common.{rules}
+use Rattle.game.proofs.StrategyLaws.{filled}
+use Rattle.game.proofs.tables.decide.Goals as goal
+
+pub fill-requires : goal.fill-requires
+fill-requires c =
+    record { valid = c.requires.valid; ranked = c.solve-solution.ensures.near_ranked; ranking = c.solve-solution.ensures.found.ranking; inputs_nonzero = (c.requires.inputs_nonzero.0, c.requires.inputs_nonzero.2, c.requires.inputs_nonzero.3) }
+
+pub returns : goal.returns
+returns c =
+    filled c.solve-solution.ensures c.fill.ensures.system_filled c.fill.ensures.environment_filled c.requires.valid c.requires.inputs_nonzero.1

@@ -1,0 +1,8 @@
+-- `game::tables::limit` meets its contract: the three cases.
+-- Assumes nothing.
+use Rattle.std.proofs.Common.{rules}
+use Rattle.game.proofs.tables.limit.Goals as goal
+
+pub returns-then-judged : goal.returns-then-judged
+returns-then-judged c =
+    rw c.if-judged.true

@@ -1,0 +1,71 @@
+-- `game::wide::first_looks` meets its contract. The invariant: the passes are those of the states below s. The measure is the number of states left.
+-- Assumes nothing.
+use Rattle.std.proofs.Common.{◌≡◌, ℕ, ◌+◌, ◌-◌, ◌<◌, ◌≤◌, Bool, List, length, replicate, sym, refl, ◌∙◌, subst, ⊎_elim, arith, length-set, rules}
+use Rattle.automaton.specs.Limits.{state_limit}
+use Rattle.plays.specs.Arena.{Arena}
+use Rattle.game.specs.inner.Game.{arena_of}
+use Rattle.game.specs.inner.Wide.{Hopeful, Looks}
+use Rattle.game.proofs.LimitLaws.{zeros}
+use Rattle.game.proofs.WidenLaws.{no_looks, looks_stays, looks_more, looks_over}
+use Rattle.game.proofs.wide.first_looks.Goals as goal
+
+pub loop-s-init : goal.loop-s-init
+loop-s-init c =
+    (search rules, no_looks c.args.limit c.args.system.now c.args.needs.now (replicate state_limit 0) (zeros state_limit), refl)
+
+pub hopeful-requires : goal.hopeful-requires
+hopeful-requires c =
+    record { valid = c.requires.valid; bounds = c.requires.bounds; unranked_beaten = c.requires.unranked_beaten; by_index = c.requires.by_index; s_lt_states = (omega arith, omega (arith, c.requires.valid.moving.states_fit, c.requires.limit_le_states)) }
+
+pub offset_bounds-system-s : goal.offset_bounds-system-s
+offset_bounds-system-s c =
+    let small : c.loop-s.s < state_limit = omega (arith, c.requires.valid.moving.states_fit) in
+    omega (arith, small)
+
+pub bounds-system-s : goal.bounds-system-s
+bounds-system-s c =
+    let small : c.loop-s.s < state_limit = omega (arith, c.requires.valid.moving.states_fit) in
+    omega (arith, small)
+
+pub overflow_add-limit : goal.overflow_add-limit
+overflow_add-limit c =
+    omega (arith, c.requires.valid.moving.states_fit, c.requires.limit_le_states)
+
+pub offset_bounds-due-s : goal.offset_bounds-due-s
+offset_bounds-due-s c =
+    let small : c.loop-s.s < state_limit = omega (arith, c.requires.valid.moving.states_fit) in
+    omega (arith, small)
+
+pub bounds-due-s : goal.bounds-due-s
+bounds-due-s c =
+    let small : c.loop-s.s < state_limit = omega (arith, c.requires.valid.moving.states_fit) in
+    omega (arith, small)
+
+pub overflow_add-s : goal.overflow_add-s
+overflow_add-s c =
+    let small : c.loop-s.s < state_limit = omega (arith, c.requires.valid.moving.states_fit) in
+    omega (arith, small)
+
+-- one more state passed, whichever way the branch went
+pub loop-s-preserved : goal.loop-s-preserved
+loop-s-preserved c =
+    let small : c.loop-s.s < state_limit = omega (arith, c.requires.valid.moving.states_fit) in
+    let is : (b : Bool) → c.hopeful.result ≡ b
+    → Hopeful (arena_of c.args.g c.args.transitions.now c.args.accepting.now) c.args.limit
+    c.args.system.now c.args.needs.now c.loop-s.s b = λ b e. subst (Hopeful (arena_of c.args.g c.args.transitions.now c.args.accepting.now) c.args.limit c.args.system.now c.args.needs.now c.loop-s.s) e
+    c.hopeful.ensures in
+    let G : Arena = arena_of c.args.g c.args.transitions.now c.args.accepting.now in
+    let P : List ℕ → Type 0 = λ due. Looks G c.args.limit c.args.system.now c.args.needs.now due (c.loop-s.s + 1) × (length due ≡ state_limit) in
+    let passed : P c.if-hopeful.due =
+    ⊎_elim
+    (λ w. subst P (sym w.3) (
+      looks_more c.loop-s.invariant.1 c.requires.bounds c.requires.exact_needs c.requires.by_index c.requires.limit_le_states (omega arith) (omega (arith, small)) (is _ w.0.taken) w.2.ensures,
+      length-set c.loop-s.due c.loop-s.s w.2.result ∙ c.loop-s.invariant.2,
+    ))
+    (λ w. subst P (sym w.1) (looks_stays c.loop-s.invariant.1 (is _ w.0.left), c.loop-s.invariant.2))
+    c.if-hopeful.branch in
+    (omega arith, passed.0, passed.1)
+
+pub returns : goal.returns
+returns c =
+    record { looks = looks_over c.loop-s.invariant.1 (omega arith); result_len = c.loop-s.invariant.2 }

@@ -1,0 +1,20 @@
+-- `game::wide::hopeful` meets its contract: a state that the system does not win, or that has a need, is left, and the first unserved input decides on the
+-- others.
+-- Assumes nothing.
+use Rattle.std.proofs.Common.{get_or, rules}
+use Rattle.reader.proofs.BoolLaws.{positive}
+use Rattle.game.proofs.WidenLaws.{hopeful_lost, hopeful_has, hopeful_by}
+use Rattle.game.proofs.wide.hopeful.Goals as goal
+
+pub returns-then-system-s-eq0 : goal.returns-then-system-s-eq0
+returns-then-system-s-eq0 c =
+    hopeful_lost c.requires.valid c.requires.bounds c.requires.unranked_beaten c.requires.by_index c.requires.s_lt_states.0 c.if-system-s-eq0.true
+
+pub returns-then-needs-s-ne0 : goal.returns-then-needs-s-ne0
+returns-then-needs-s-ne0 c =
+    hopeful_has c.requires.valid c.requires.bounds c.requires.unranked_beaten c.requires.by_index c.requires.s_lt_states.0 c.if-needs-s-ne0.true
+
+pub returns : goal.returns
+returns c =
+    hopeful_by c.requires.valid c.requires.bounds c.requires.unranked_beaten c.requires.by_index c.requires.s_lt_states.0 c.unserved-x.ensures
+    (positive (get_or c.args.system.now c.args.s 0) c.if-system-s-eq0.false) c.if-needs-s-ne0.false

@@ -1,0 +1,16 @@
+-- `game::wide::widen` meets its contract. The invariant: the pass has been made over the states below s. The measure is the number of states left.
+-- Assumes nothing.
+use Rattle.std.proofs.Common.{◌≡◌, ◌+◌, ◌-◌, ◌≤◌, Bool, true, ◌⊎◌, length, sym, subst, ⊎_elim, arith, rules}
+use Rattle.automaton.specs.Limits.{state_limit}
+use Rattle.plays.specs.Arena.{Arena}
+use Rattle.game.specs.inner.Game.{arena_of}
+use Rattle.game.specs.inner.Wide.{Widened}
+use Rattle.game.proofs.WidenLaws.{widen_starts, widen_more, widen_over}
+use Rattle.game.proofs.wide.widen.Given as goal
+
+abbrev pub invariant-loop-s : goal.invariant-loop-s
+invariant-loop-s l = (l.s ≤ l.g.states)
+    × Widened (arena_of l.g l.transitions l.accepting) l.limit l.system l.initial.needs l.needs l.due l.p l.s l.going × (length l.needs ≡ state_limit) × (length l.due ≡ state_limit)
+
+abbrev pub decreases-loop-s : goal.decreases-loop-s
+decreases-loop-s l = l.g.states - l.s

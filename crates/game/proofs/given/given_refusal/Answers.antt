@@ -37,6 +37,5 @@ returns c =
     let alphabet-good : bad_alphabet c.args.i c.args.o ≡ false = sym c.bad_alphabet.ensures ∙ c.if-bad_alphabet.false in
     let count-good : bad_count c.args.n ≡ false = sym c.bad_count.ensures ∙ c.if-bad_count.false in
     refused_later c.args.i c.args.o c.args.start ((arena c.args.i c.args.o c.args.n c.args.transitions.now c.args.accepting.now c.args.mask)) c.args.system.now c.args.environment.now (alphabet-good) (count-good) c.later_refusal.result
-    (subst (λ ({-place Start-} : Sizes). c.later_refusal.result ≡ later_refusal c.args.start (arena_at {-place Start-} c.args.transitions.now c.args.accepting.now c.args.mask)
+    (subst (λ (z : Sizes). c.later_refusal.result ≡ later_refusal c.args.start (arena_at z c.args.transitions.now c.args.accepting.now c.args.mask)
     c.args.system.now c.args.environment.now) c.sizes_of-sizes.ensures c.later_refusal.ensures)
-

@@ -7,6 +7,7 @@ use Rattle.reader.proofs.BoolLaws.{positive}
 use Rattle.game.proofs.LimitLaws.{zeros}
 use Rattle.game.proofs.NarrowLaws.{none_marked, mark_stays, mark_more, mark_over}
 use Rattle.game.proofs.needs.first_needs.Goals as goal
+use Rattle.game.proofs.needs.first_needs.Goals.{else-system-s-ne0, then-system-s-ne0}
 
 pub loop-s-init : goal.loop-s-init
 loop-s-init c =
@@ -17,13 +18,13 @@ pub loop-s-preserved : goal.loop-s-preserved
 loop-s-preserved c =
     let P : List ℕ → Type 0 = λ new. Marked (c.loop-s.s + 1) c.args.system.now new × (length new ≡ state_limit) in
     let here : P c.if-system-s-ne0.needs =
-    ⊎_elim
-    (λ w. subst P (sym w.1) (
-      mark_more c.loop-s.invariant.1 (omega arith) (positive (get_or c.args.system.now c.loop-s.s 0) w.0.taken),
-      length-set c.loop-s.needs c.loop-s.s 1 ∙ c.loop-s.invariant.2,
-    ))
-    (λ w. subst P (sym w.1) (mark_stays c.loop-s.invariant.1 w.0.left, c.loop-s.invariant.2))
-    c.if-system-s-ne0.branch in
+    (elim c.if-system-s-ne0.branch [
+      | then-system-s-ne0 w ↦ subst P (sym w.needs-is) (
+        mark_more c.loop-s.invariant.1 (omega arith) (positive (get_or c.args.system.now c.loop-s.s 0) w.if-system-s-ne0.true),
+        length-set c.loop-s.needs c.loop-s.s 1 ∙ c.loop-s.invariant.2,
+      )
+      | else-system-s-ne0 w ↦ subst P (sym w.needs-is) (mark_stays c.loop-s.invariant.1 w.if-system-s-ne0.false, c.loop-s.invariant.2)
+    ]) in
     (omega arith, here.0, here.1)
 
 pub returns : goal.returns

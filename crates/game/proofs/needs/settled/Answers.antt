@@ -28,7 +28,7 @@ sweep-requires c =
 
 pub loop-needs-smaller : goal.loop-needs-smaller
 loop-needs-smaller c =
-    let m = c.sweep.ensures.swept.more (not_false→ _ c.if-not-sweep.false) in
+    let m = c.sweep.ensures.swept.more c.if-not-sweep.false in
     omega (
       arith,
       sum_more c.loop-needs.needs c.sweep.new.needs c.sweep.ensures.swept.rises m.0 m.2 c.args.g.states m.1,
@@ -57,8 +57,8 @@ returns-then-not-sweep c =
       settled = record {
         bounds = c.sweep.ensures.swept.bounds;
         kept = λ t p. c.loop-needs.invariant.1 t (c.sweep.ensures.swept.kept t p);
-        ranked = λ _. sweeps_end c.sweep.ensures.swept (not_true→ _ c.if-not-sweep.true);
-        low = λ _. sweeps_low c.sweep.ensures.swept (not_true→ _ c.if-not-sweep.true);
+        ranked = λ _. sweeps_end c.sweep.ensures.swept c.if-not-sweep.true;
+        low = λ _. sweeps_low c.sweep.ensures.swept c.if-not-sweep.true;
       };
       result_len = c.sweep.ensures.needs_len;
     }

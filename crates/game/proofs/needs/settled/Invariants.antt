@@ -14,4 +14,4 @@ abbrev pub invariant-loop-needs : goal.invariant-loop-needs
 invariant-loop-needs l = Bounds (arena_of l.g l.transitions l.accepting) l.limit l.needs × Shrinks l.low l.needs × (length l.needs ≡ state_limit)
 
 abbrev pub decreases-loop-needs : goal.decreases-loop-needs
-decreases-loop-needs l = l.g.states * (state_limit + 1) - height_sum rules l.g.states
+decreases-loop-needs l = l.g.states * (state_limit + 1) - height_sum l.needs l.g.states

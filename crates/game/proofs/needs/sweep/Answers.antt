@@ -7,6 +7,7 @@ use Rattle.game.specs.inner.Game.{arena_of}
 use Rattle.game.specs.inner.Needs.{Swept}
 use Rattle.game.proofs.LiftLaws.{sweep_starts, sweep_stays, sweep_lifts, sweep_over}
 use Rattle.game.proofs.needs.sweep.Goals as goal
+use Rattle.game.proofs.needs.sweep.Goals.{else-need-needs, then-need-needs}
 
 pub loop-s-init : goal.loop-s-init
 loop-s-init c =
@@ -48,14 +49,13 @@ loop-s-preserved c =
     let G : Arena = arena_of c.args.g c.args.transitions.now c.args.accepting.now in
     let P : List ℕ → Bool → Type 0 = λ new lifted. Swept G c.args.limit c.args.needs.now new (c.loop-s.s + 1) lifted × (length new ≡ state_limit) in
     let passed : P c.if-need-needs.needs c.if-need-needs.lifted =
-    ⊎_elim
-    (λ w.
-    subst₂ P (sym w.1) (sym w.2) (
-      sweep_lifts c.loop-s.invariant.1 (omega arith) (omega (arith, small)) (c.next_need-need.ensures.lifts w.0.taken),
-      length-set c.loop-s.needs c.loop-s.s c.next_need-need.result ∙ c.loop-s.invariant.2,
-    ))
-    (λ w. subst₂ P (sym w.1) (sym w.2) (sweep_stays c.loop-s.invariant.1 (c.next_need-need.ensures.stands w.0.left), c.loop-s.invariant.2))
-    c.if-need-needs.branch in
+    (elim c.if-need-needs.branch [
+      | then-need-needs w ↦ subst₂ P (sym w.needs-is) (sym w.lifted-is) (
+        sweep_lifts c.loop-s.invariant.1 (omega arith) (omega (arith, small)) (c.next_need-need.ensures.lifts w.if-need-needs.true),
+        length-set c.loop-s.needs c.loop-s.s c.next_need-need.result ∙ c.loop-s.invariant.2,
+      )
+      | else-need-needs w ↦ subst₂ P (sym w.needs-is) (sym w.lifted-is) (sweep_stays c.loop-s.invariant.1 (c.next_need-need.ensures.stands w.if-need-needs.false), c.loop-s.invariant.2)
+    ]) in
     (omega arith, passed.0, passed.1)
 
 pub returns : goal.returns

@@ -7,14 +7,14 @@ use Rattle.game.proofs.rounds.attracted.Goals as goal
 
 pub returns-then-not-unranked : goal.returns-then-not-unranked
 returns-then-not-unranked c =
-    attracted_not (c.unranked.ensures.fact (not_true→ _ c.if-not-unranked.true))
+    attracted_not (c.unranked.ensures.fact c.if-not-unranked.true)
 
 pub returns-then-g : goal.returns-then-g
 returns-then-g c =
-    let u = c.unranked.ensures.unranked (not_false→ _ c.if-not-unranked.false) in
+    let u = c.unranked.ensures.unranked c.if-not-unranked.false in
     attracted_fair c.requires.apart u c.if-g.true c.unserved-x.ensures
 
 pub returns-else-g : goal.returns-else-g
 returns-else-g c =
-    let u = c.unranked.ensures.unranked (not_false→ _ c.if-not-unranked.false) in
+    let u = c.unranked.ensures.unranked c.if-not-unranked.false in
     attracted_stable c.requires.apart u c.if-g.false c.unserved-x-else-g.ensures

@@ -23,7 +23,7 @@ overflow_cast-o c =
 pub returns-in_default : goal.returns-in_default
 returns-in_default c =
     by_rule c.args.i c.args.o c.args.rule.now c.args.condition.now 0 c.requires.0 c.requires.1 c.requires.2 c.check-reading.result c.check-reading.ensures
-    (not_good c.check-reading.result c.in_default.keys2) c.text_refusal.result c.text_refusal.ensures
+    c.in_default.not-Good c.text_refusal.result c.text_refusal.ensures
 
 pub returns-in-Mask : goal.returns-in-Mask
 returns-in-Mask c =

@@ -10,4 +10,4 @@ returns-then-limit-eq0 c =
 
 pub returns : goal.returns
 returns c =
-    sym (one_less c.args.limit c.args.r.now c.args.t (omega (arith, c.if-limit-eq0.false)) (omega arith) c.wrapping_sub_u16.result (omega arith) c.wrapping_sub_u16.ensures)
+    sym (one_less c.args.limit c.args.r.now c.args.t (omega (arith, c.if-limit-eq0.false)) (omega arith) c.wrapping_sub_u16.result (omega arith) c.wrapping_sub_u16.ensures.value)

@@ -9,12 +9,8 @@ use Rattle.game.specs.declared.arena.Game.{Game}
 use Rattle.game.specs.declared.search.Limits.{Limits}
 use Rattle.game.proofs.IndexLaws.{pair_below}
 use Rattle.game.proofs.SearchLaws.{Tried, tried_none, tried_wrapped, tried_more, tried_all}
+use Rattle.game.proofs.search.unserved.Invariants.{served}
 use Rattle.game.proofs.search.unserved.Goals as goal
-
--- whether output y serves input x, by the arguments
-abbrev served : Game → List ℕ → List ℕ → List ℕ → List ℕ → Limits → ℕ → ℕ → ℕ → Bool
-served g transitions accepting won safe limits s x y =
-    serving (arena_of g transitions accepting) (ranked_below limits.won won) (safe_below limits.inside limits.safe safe) s x y
 
 pub inputs-init : goal.inputs-init
 inputs-init c =

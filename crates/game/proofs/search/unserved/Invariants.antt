@@ -11,6 +11,11 @@ use Rattle.game.proofs.IndexLaws.{pair_below}
 use Rattle.game.proofs.SearchLaws.{Tried, tried_none, tried_wrapped, tried_more, tried_all}
 use Rattle.game.proofs.search.unserved.Given as goal
 
+-- whether output y serves input x, by the arguments
+abbrev pub served : Game → List ℕ → List ℕ → List ℕ → List ℕ → Limits → ℕ → ℕ → ℕ → Bool
+served g transitions accepting won safe limits s x y =
+    serving (arena_of g transitions accepting) (ranked_below limits.won won) (safe_below limits.inside limits.safe safe) s x y
+
 abbrev pub invariant-loop-tried : goal.invariant-loop-tried
 invariant-loop-tried l = Tried (served l.g l.transitions l.accepting l.won l.safe l.limits l.s l.x) l.g.outputs l.tried l.y
 

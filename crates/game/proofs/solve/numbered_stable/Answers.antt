@@ -12,7 +12,7 @@ returns-then-environment-start-ne0 c =
 
 pub narrow-needs-requires : goal.narrow-needs-requires
 narrow-needs-requires c =
-    let system_length : length c.args.ranks.system ≡ state_limit = sym (length-map c.args.ranks.system (λ v. v)) ∙ c.well_formed.1.1.1.1.0.1.1.0.1.0.1 in
+    let system_length : length c.args.ranks.system ≡ state_limit = search rules in
     let q = asks_narrow c.requires.start_lt_states c.requires.found c.requires.fair_value c.if-environment-start-ne0.false in
     record { valid = c.requires.valid; start_lt_states = (c.requires.start_lt_states, q.0); exact_needs = q.1; by_index = q.2; unranked_beaten = q.3; system_len = system_length }
 

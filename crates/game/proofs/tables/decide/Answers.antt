@@ -10,4 +10,5 @@ fill-requires c =
 
 pub returns : goal.returns
 returns c =
-    filled c.solve-solution.ensures c.fill.ensures.system_filled c.fill.ensures.environment_filled c.requires.valid c.requires.inputs_nonzero.1
+    let both = filled c.solve-solution.ensures c.fill.ensures.system_filled c.fill.ensures.environment_filled c.requires.valid c.requires.inputs_nonzero.1 in
+    record { tables = both.0; verdict = both.1 }

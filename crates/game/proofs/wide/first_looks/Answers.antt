@@ -8,6 +8,7 @@ use Rattle.game.specs.inner.Wide.{Hopeful, Looks}
 use Rattle.game.proofs.LimitLaws.{zeros}
 use Rattle.game.proofs.WidenLaws.{no_looks, looks_stays, looks_more, looks_over}
 use Rattle.game.proofs.wide.first_looks.Goals as goal
+use Rattle.game.proofs.wide.first_looks.Goals.{else-hopeful, then-hopeful}
 
 pub loop-s-init : goal.loop-s-init
 loop-s-init c =
@@ -57,13 +58,13 @@ loop-s-preserved c =
     let G : Arena = arena_of c.args.g c.args.transitions.now c.args.accepting.now in
     let P : List ℕ → Type 0 = λ due. Looks G c.args.limit c.args.system.now c.args.needs.now due (c.loop-s.s + 1) × (length due ≡ state_limit) in
     let passed : P c.if-hopeful.due =
-    ⊎_elim
-    (λ w. subst P (sym w.3) (
-      looks_more c.loop-s.invariant.1 c.requires.bounds c.requires.exact_needs c.requires.by_index c.requires.limit_le_states (omega arith) (omega (arith, small)) (is _ w.0.taken) w.2.ensures,
-      length-set c.loop-s.due c.loop-s.s w.2.result ∙ c.loop-s.invariant.2,
-    ))
-    (λ w. subst P (sym w.1) (looks_stays c.loop-s.invariant.1 (is _ w.0.left), c.loop-s.invariant.2))
-    c.if-hopeful.branch in
+    (elim c.if-hopeful.branch [
+      | then-hopeful w ↦ subst P (sym w.due-is) (
+        looks_more c.loop-s.invariant.1 c.requires.bounds c.requires.exact_needs c.requires.by_index c.requires.limit_le_states (omega arith) (omega (arith, small)) (is _ w.if-hopeful.true) w.larger.ensures,
+        length-set c.loop-s.due c.loop-s.s w.larger.result ∙ c.loop-s.invariant.2,
+      )
+      | else-hopeful w ↦ subst P (sym w.due-is) (looks_stays c.loop-s.invariant.1 (is _ w.if-hopeful.false), c.loop-s.invariant.2)
+    ]) in
     (omega arith, passed.0, passed.1)
 
 pub returns : goal.returns

@@ -7,6 +7,7 @@ use Rattle.game.specs.inner.Game.{arena_of}
 use Rattle.game.specs.inner.Wide.{Widened}
 use Rattle.game.proofs.WidenLaws.{widen_starts, widen_more, widen_over}
 use Rattle.game.proofs.wide.widen.Goals as goal
+use Rattle.game.proofs.wide.widen.Goals.{else-look, then-look}
 
 pub loop-s-init : goal.loop-s-init
 loop-s-init c =
@@ -26,10 +27,7 @@ loop-s-preserved c =
     let G : Arena = arena_of c.args.g c.args.transitions.now c.args.accepting.now in
     let P : Bool → Type 0 = λ going. Widened G c.args.limit c.args.system.now c.args.needs.now c.look.new.needs c.look.new.due c.args.p (c.loop-s.s + 1) going in
     let passed : P c.if-look.going =
-    ⊎_elim
-    (λ w. subst P (sym w.1) (widen_more c.loop-s.invariant.1 c.look.ensures.looked true (λ _. ◌⊎◌.inl w.0.taken) (λ f. absurd (mathlib.Core.Bool.true≢false f))))
-    (λ w. subst P (sym w.1) (widen_more c.loop-s.invariant.1 c.look.ensures.looked c.loop-s.going (λ f. ◌⊎◌.inr f) (λ f. (w.0.left, f))))
-    c.if-look.branch in
+    (elim c.if-look.branch [ then-look w ↦ subst P (sym w.going-is) (widen_more c.loop-s.invariant.1 c.look.ensures.looked true (λ _. ◌⊎◌.inl w.if-look.true) (λ f. absurd (mathlib.Core.Bool.true≢false f))) | else-look w ↦ subst P (sym w.going-is) (widen_more c.loop-s.invariant.1 c.look.ensures.looked c.loop-s.going (λ f. ◌⊎◌.inr f) (λ f. (w.if-look.false, f))) ]) in
     (omega arith, passed, c.look.ensures.needs_len_2.0, c.look.ensures.needs_len_2.1)
 
 pub returns : goal.returns

@@ -49,6 +49,5 @@ returns c =
     let count-good : bad_count c.args.n ≡ false = sym c.bad_count.ensures ∙ c.if-bad_count.false in
     answers c.step.result
     (followed_later c.args.i c.args.o ((arena c.args.i c.args.o c.args.n c.args.transitions.now c.args.accepting.now 0)) c.args.system.now c.args.self c.args.x (alphabet-good) (count-good) c.step.result
-    (subst (λ ({-place Start-} : Sizes). c.step.result ≡ later_followed (arena_at {-place Start-} c.args.transitions.now c.args.accepting.now 0) c.args.system.now c.args.self c.args.x)
+    (subst (λ (z : Sizes). c.step.result ≡ later_followed (arena_at z c.args.transitions.now c.args.accepting.now 0) c.args.system.now c.args.self c.args.x)
     c.sizes_of-sizes.ensures c.step.ensures))
-

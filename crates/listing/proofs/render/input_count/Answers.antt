@@ -7,11 +7,10 @@ use mathlib.Core.Path.{◌≡◌}
 use native.Mathlib.Omega.{arith}
 use borrow.Author.Rules.{rules}
 use Rattle.listing.specs.inner.Rendering.{row_limit}
-use Rattle.listing.proofs.render.input_count.Statement.{statement}
-use Rattle.listing.proofs.render.input_count.Tie as tie
+use Rattle.listing.proofs.render.input_count.Goals as goal
 
-pub input-count-spec : {M : Type 1} → statement M
-input-count-spec = tie.close (tie.spec (λ c. search rules) (λ c.
+pub returns : goal.returns
+returns c =
     let p : 2 ^ c.args.i ≤ row_limit = pow_mono {j = 9} c.requires in
     let e : 1 * 2 ^ c.args.i % 18446744073709551616 ≡ 2 ^ c.args.i = rw one-mul (mod-eq_of_lt (omega arith)) in
-    (e, omega arith)))
+    (e, omega arith)

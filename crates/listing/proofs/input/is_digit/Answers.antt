@@ -1,0 +1,13 @@
+-- `listing::input::is_digit` meets its contract: the two bounds, one after the other.
+-- Assumes nothing.
+use mathlib.Core.Path.{refl}
+use borrow.Author.Tests.{lt-leb, le-leb}
+use Rattle.listing.proofs.input.is_digit.Goals as goal
+
+pub returns-then-b-lt48 : goal.returns-then-b-lt48
+returns-then-b-lt48 c =
+    rw (lt-leb 48 c.args.b c.if-b-lt48.true) refl
+
+pub returns : goal.returns
+returns c =
+    rw (le-leb 48 c.args.b c.if-b-lt48.false) refl

@@ -1,0 +1,17 @@
+-- `capi::airtable_solve_rule` meets its contract: the numbers are those of the answer, which the library solved for the mode at this number.
+-- Assumes nothing.
+use mathlib.Core.Path.{sym}
+use borrow.Author.Rules.{rules}
+use Rattle.capi.proofs.airtable_solve_rule.Goals as goal
+
+pub returns : goal.returns
+returns c =
+    record {
+      answer = c.solve_rule-answer.result;
+      solved = rw (sym c.mode_at.ensures) c.solve_rule-answer.ensures;
+      number_of = c.answer_number.ensures;
+      can_of = c.can_flag.ensures;
+      n_of = c.states_of.ensures;
+      round_of = c.round_of.ensures;
+      place_of = c.answer_place.ensures;
+    }

@@ -1,11 +1,11 @@
 -- What the reader's promise gives the calls: the nodes of a good text represent its formula, and every text has a count of states.
 -- Assumes nothing.
-use Prim.Native.Nat.{ℕ, ◌+◌, ◌≤◌, ◌<◌}
-use mathlib.Core.Path.{◌≡◌, refl, sym, ap, ◌∙◌, subst, subst₂}
+use Prim.Native.Nat.{ℕ}
+use mathlib.Core.Path.{◌≡◌, sym, ap, subst, subst₂}
 use mathlib.Core.Bool.{Bool, true}
 use mathlib.Core.List.{List}
 use native.Mathlib.Omega.{arith}
-use lib.ListN.{length, replicate}
+use lib.ListN.{replicate}
 use lib.Seq.{sets}
 use Rattle.reader.specs.declared.reading.Reading.{Reading}
 use Rattle.reader.specs.declared.reading.Reading.TheVariants.{Good, TooLong, Bad, TooManyNodes, TooManyOperators}
@@ -14,7 +14,7 @@ use Rattle.reader.specs.Formula.{Formula, size, operators}
 use Rattle.reader.specs.Marks.{kind_in, rule_kind}
 use Rattle.reader.specs.Reading.{ReadingOf, IsGood}
 use Rattle.reader.specs.inner.Nodes.{Written, nodes_of}
-use Rattle.reader.proofs.Unambiguous.{one_formula, never_both, some_reading}
+use Rattle.reader.proofs.Unambiguous.{one_formula, never_both}
 use Rattle.automaton.specs.Alphabet.{letter_count}
 use Rattle.automaton.specs.Discovery.{number_of_states}
 use Rattle.automaton.specs.inner.Representation.{Represents}

@@ -5,8 +5,6 @@ use mathlib.Core.Path.{◌≡◌, refl, sym, ap, ◌∙◌, subst}
 use mathlib.Core.Bool.{Bool, true, false, cond}
 use mathlib.Core.List.{List}
 use mathlib.Core.Logic.{◌↔◌}
-use native.Mathlib.Omega.{arith}
-use lib.Dec.{ltb}
 use lib.ListN.{length}
 use borrow.Author.Tests.{lt-ltb, le-ltb}
 use Rattle.reader.specs.declared.reading.Reading.{Reading}
@@ -17,14 +15,14 @@ use Rattle.reader.specs.Limits.{too_long}
 use Rattle.reader.specs.Formula.{Formula}
 use Rattle.reader.specs.Marks.{rule_kind}
 use Rattle.reader.specs.Reading.{ReadingOf, IsGood}
-use Rattle.reader.specs.Refusal.{number_of, place_of, is_nothing, after_rule}
+use Rattle.reader.specs.Refusal.{is_nothing, after_rule}
 use Rattle.reader.proofs.RefusalLaws.{something, NotGood, rule_refused}
 use Rattle.reader.proofs.Unambiguous.{some_reading}
 use Rattle.automaton.specs.declared.trial.Trial.{Trial}
 use Rattle.automaton.specs.declared.trial.Trial.TheVariants.{Satisfied, Violated, Refused}
 use Rattle.automaton.specs.Alphabet.{bad_alphabet, letter_count, first_over, after_list}
 use Rattle.automaton.specs.Trace.{Satisfies}
-use Rattle.automaton.specs.Trial.{trial_refusal, trial_number, trial_place, Judged, Tried}
+use Rattle.automaton.specs.Trial.{trial_refusal, trial_number, trial_place, Tried}
 
 module _ (i o : ℕ) (text letters : List ℕ) where
   refused : (ρ : Reading) → ReadingOf i (rule_kind i o) text ρ → (x : Refusal)

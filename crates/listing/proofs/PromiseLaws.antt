@@ -31,7 +31,7 @@ use Rattle.listing.specs.Listing.{listing, malformed}
 use Rattle.listing.specs.Promise.{lent, Listed}
 use Rattle.listing.specs.inner.Rendering.{listing_of}
 use Rattle.listing.specs.inner.Scan.{is_request, mode_in, line_end, condition_start, condition_part, rule_part, digit_at}
-use Rattle.listing.specs.inner.Writing.{written, Writes}
+use Rattle.listing.specs.inner.Writing.{Writes}
 use Rattle.listing.proofs.FillingLaws.{written_filled, position_least}
 use Rattle.listing.proofs.RequestLaws.{request_asks, asks_request}
 

@@ -1,14 +1,14 @@
 -- A text in which no temporal mark is in reach, as a condition, has no temporal operator.
 -- Assumes nothing.
-use mathlib.Core.Path.{◌≡◌, refl, sym, ap, ◌∙◌}
+use mathlib.Core.Path.{◌≡◌, refl, ap, ◌∙◌}
 use mathlib.Core.Bool.{Bool, true, false, cond}
 use mathlib.Core.List.{List}
-use Prim.Native.Nat.{ℕ, suc, ◌+◌}
+use Prim.Native.Nat.{ℕ, suc}
 use native.Mathlib.Omega.{arith}
 use Rattle.reader.specs.declared.marks.Kind.{Kind}
 use Rattle.reader.specs.declared.marks.Kind.TheVariants.{Operand, Prefix, Infix, Open, Close, Other}
 use Rattle.reader.specs.Formula.{Formula, operators}
-use Rattle.reader.specs.Marks.{mark_kind, kind_in, is_temporal_mark, allowed_by, unary_of, binary_of}
+use Rattle.reader.specs.Marks.{kind_in, is_temporal_mark, allowed_by}
 use Rattle.reader.specs.Grammar.{Derives, operand, prefix, parens, lower, infixed}
 use Rattle.reader.specs.inner.Counts.{tick}
 use Rattle.reader.proofs.BoolLaws.{on}

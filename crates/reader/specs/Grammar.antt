@@ -2,9 +2,9 @@
 -- Every mark is one byte and blanks may stand anywhere between marks, so a text is judged by its bytes without the blanks.
 -- The five levels: 0 what prefix marks bind, 1 until and release, 2 and, 3 or, 4 implies. All infix marks group to the right.
 -- Assumes nothing.
-use Rattle.std.specs.Prelude.{ℕ, suc, ◌≡◌, Bool, cond, [], ◌∷◌, ◌++◌, eqb}
+use Rattle.std.specs.Prelude.{ℕ, suc, ◌≡◌, cond, [], ◌∷◌, ◌++◌, eqb}
 use Rattle.reader.specs.declared.marks.Kind.{Kind}
-use Rattle.reader.specs.declared.marks.Kind.TheVariants.{Operand, Prefix, Infix, Open, Close, Other}
+use Rattle.reader.specs.declared.marks.Kind.TheVariants.{Operand, Prefix, Infix, Open, Close}
 use Rattle.reader.specs.Text.{Text}
 use Rattle.reader.specs.Formula.{Formula, unary, binary}
 use Rattle.reader.specs.Marks.{operand_of, unary_of, binary_of}

@@ -1,7 +1,6 @@
 -- `capi::airtable_follow` meets its contract: the numbers are those of the answer, and the answer is that of the position that C holds.
 -- Assumes nothing.
 use mathlib.Core.Path.{sym}
-use borrow.Author.Rules.{rules}
 use Rattle.capi.proofs.airtable_follow.Goals as goal
 
 pub returns : goal.returns

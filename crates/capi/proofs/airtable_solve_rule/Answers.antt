@@ -1,7 +1,6 @@
 -- `capi::airtable_solve_rule` meets its contract: the numbers are those of the answer, which the library solved for the mode at this number.
 -- Assumes nothing.
 use mathlib.Core.Path.{sym}
-use borrow.Author.Rules.{rules}
 use Rattle.capi.proofs.airtable_solve_rule.Goals as goal
 
 pub returns : goal.returns

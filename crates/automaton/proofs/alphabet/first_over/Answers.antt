@@ -1,11 +1,9 @@
 -- `automaton::alphabet::first_over` meets its contract. The invariant: k and the answer for what is left make the answer for the whole.
 -- The measure is what is left of the bytes. Assumes nothing.
 use borrow.Author.Rules.{rules}
-use Prim.Native.Nat.{◌+◌, ◌-◌, ◌≤◌}
-use mathlib.Core.Path.{◌≡◌, sym, ◌∙◌}
+use mathlib.Core.Path.{sym, ◌∙◌}
 use native.Mathlib.Nat.{zero-add}
 use native.Mathlib.Omega.{arith}
-use lib.ListN.{length, drop}
 use Rattle.automaton.specs.Alphabet.{first_over}
 use Rattle.automaton.proofs.FirstOverLaws.{over_here, over_later, over_end}
 use Rattle.automaton.proofs.alphabet.first_over.Goals as goal

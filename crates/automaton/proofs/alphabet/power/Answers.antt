@@ -1,6 +1,5 @@
 -- `automaton::alphabet::power` meets its contract: a power of 2 up to the number of letters is not cut by the shift.
 -- Assumes nothing.
-use borrow.Author.Rules.{rules}
 use borrow.Author.Tests.{le-leb, lt-leb}
 use Prim.Native.Nat.{◌*◌, ◌≤◌, ◌^◌}
 use native.Mathlib.Omega.{arith}

@@ -1,5 +1,4 @@
 -- `automaton::bits::set_bit` meets its contract. Assumes nothing.
-use borrow.Author.Rules.{rules}
 use Rattle.automaton.proofs.BitLaws.{set_shifted}
 use Rattle.automaton.proofs.bits.set_bit.Goals as goal
 

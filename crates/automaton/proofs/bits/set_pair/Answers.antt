@@ -1,5 +1,4 @@
 -- `automaton::bits::set_pair` meets its contract. Assumes nothing.
-use borrow.Author.Rules.{rules}
 use Rattle.automaton.proofs.BitLaws.{set_pair_shifted}
 use Rattle.automaton.proofs.bits.set_pair.Goals as goal
 

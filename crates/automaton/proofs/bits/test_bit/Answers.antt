@@ -1,5 +1,4 @@
 -- `automaton::bits::test_bit` meets its contract. Assumes nothing.
-use borrow.Author.Rules.{rules}
 use Rattle.automaton.proofs.BitLaws.{bit_one}
 use Rattle.automaton.proofs.bits.test_bit.Goals as goal
 

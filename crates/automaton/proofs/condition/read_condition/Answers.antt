@@ -1,15 +1,12 @@
 -- `automaton::condition::read_condition` meets its contract: each return is the case of the promise that the tests before it decided.
 -- Assumes nothing.
-use borrow.Author.Rules.{rules}
 use mathlib.Core.Path.{◌≡◌, sym, ap, ◌∙◌}
 use mathlib.Core.Bool.{false}
-use mathlib.Core.List.{List}
-use Prim.Native.Nat.{ℕ, ◌^◌, ◌≤◌}
+use Prim.Native.Nat.{◌^◌, ◌≤◌}
 use native.Mathlib.Omega.{arith}
 use lib.Pow.{pow_mono}
 use Rattle.reader.specs.declared.refusal.Refusal.TheVariants.{Unsatisfiable}
 use Rattle.reader.specs.Limits.{too_long}
-use Rattle.reader.proofs.RefusalLaws.{not_good}
 use Rattle.automaton.specs.Limits.{name_limit, number_limit}
 use Rattle.automaton.specs.Alphabet.{bad_alphabet}
 use Rattle.automaton.specs.Bits.{of_bits}

@@ -1,13 +1,12 @@
 -- `automaton::construct::build` meets its contract: the states are listed, and where there is room for them the transitions are filled and the states marked.
 -- Assumes nothing.
-use Prim.Native.Nat.{ℕ, suc, ◌*◌, ◌≤◌}
+use Prim.Native.Nat.{suc, ◌*◌, ◌≤◌}
 use mathlib.Core.Path.{◌≡◌, sym, ◌∙◌}
-use mathlib.Core.Bool.{Bool, false, ◌||◌}
+use mathlib.Core.Bool.{false, ◌||◌}
 use native.Mathlib.Omega.{arith}
 use lib.Dec.{ltb}
 use lib.ListN.{length}
 use lib.Pow.{pow_mono}
-use borrow.Author.Rules.{rules}
 use Rattle.reader.specs.Formula.{Formula, operators}
 use Rattle.reader.proofs.BoolLaws.{or_right}
 use Rattle.automaton.specs.inner.Representation.{Tabulates}

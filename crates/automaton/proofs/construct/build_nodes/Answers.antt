@@ -1,7 +1,6 @@
 -- `automaton::construct::build_nodes` meets its contract: the width is the number of coordinates of the formula that the nodes represent,
 -- which is what the table, the end valuation and the exploration are promised for.
 -- Assumes nothing.
-use borrow.Author.Rules.{rules}
 use mathlib.Core.Path.{◌≡◌}
 use Prim.Native.Nat.{suc, ◌+◌, ◌≤◌}
 use native.Mathlib.Omega.{arith}

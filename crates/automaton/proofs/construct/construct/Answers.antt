@@ -1,13 +1,10 @@
 -- `automaton::construct::construct` meets its contract: each return is the case of the promise that the tests before it decided.
 -- Assumes nothing.
-use borrow.Author.Rules.{rules}
 use mathlib.Core.Path.{◌≡◌, sym, ◌∙◌, subst}
 use mathlib.Core.Bool.{true, false}
-use mathlib.Core.List.{List}
 use Prim.Native.Nat.{ℕ}
 use native.Mathlib.Omega.{arith}
 use Rattle.reader.specs.Limits.{too_long}
-use Rattle.reader.proofs.RefusalLaws.{not_good}
 use Rattle.automaton.specs.Alphabet.{bad_alphabet, letter_count}
 use Rattle.automaton.specs.inner.Exploration.{BuiltAutomaton}
 use Rattle.automaton.proofs.AlphabetLaws.{inputs_fit, outputs_fit, LettersFit, letters_fit}

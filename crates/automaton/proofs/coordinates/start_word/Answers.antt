@@ -6,7 +6,6 @@ use mathlib.Core.Path.{◌≡◌, ap, ap₂, ◌∙◌}
 use Rattle.automaton.specs.Bits.{bit, of_bits}
 use Rattle.automaton.specs.inner.Sizes.{vector_limit, word_bits}
 use Rattle.automaton.proofs.BitLaws.{of_bits_mod, bit_shifted}
-use borrow.Author.Rules.{rules}
 use Rattle.automaton.proofs.coordinates.start_word.Goals as goal
 
 -- the quotient is 0

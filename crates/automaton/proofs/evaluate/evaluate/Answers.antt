@@ -1,14 +1,12 @@
 -- `automaton::evaluate::evaluate` meets its contract. The invariant: the nodes below i have their words. The measure is what is left of the nodes.
 -- Assumes nothing.
-use Rattle.reader.specs.Limits.{node_limit}
 use Rattle.automaton.specs.inner.Evaluation.{Evaluated}
 use native.Mathlib.Omega.{arith}
 use mathlib.Core.Path.{◌≡◌, refl, ap, ◌∙◌}
-use Prim.Native.Nat.{ℕ, ◌-◌, ◌≤◌}
-use lib.ListN.{get_or, length, length-set}
+use Prim.Native.Nat.{ℕ}
+use lib.ListN.{get_or, length-set}
 use native.Mathlib.Nat.{not-suc-le-zero}
 use Rattle.automaton.proofs.EvaluationLaws.{evaluated_more}
-use borrow.Author.Rules.{rules}
 use Rattle.automaton.proofs.evaluate.evaluate.Goals as goal
 
 pub loop-i-init : goal.loop-i-init

@@ -2,13 +2,9 @@
 -- Assumes nothing.
 use Rattle.reader.specs.Limits.{node_limit}
 use Rattle.automaton.specs.inner.Evaluation.{Evaluated}
-use native.Mathlib.Omega.{arith}
-use mathlib.Core.Path.{◌≡◌, refl, ap, ◌∙◌}
-use Prim.Native.Nat.{ℕ, ◌-◌, ◌≤◌}
-use lib.ListN.{get_or, length, length-set}
-use native.Mathlib.Nat.{not-suc-le-zero}
-use Rattle.automaton.proofs.EvaluationLaws.{evaluated_more}
-use borrow.Author.Rules.{rules}
+use mathlib.Core.Path.{◌≡◌}
+use Prim.Native.Nat.{◌-◌, ◌≤◌}
+use lib.ListN.{length}
 use Rattle.automaton.proofs.evaluate.evaluate.Given as goal
 
 abbrev pub invariant-loop-i : goal.invariant-loop-i

@@ -2,7 +2,6 @@
 use mathlib.Core.Path.{sym, ◌∙◌}
 use Rattle.automaton.specs.inner.Sizes.{word_bits}
 use Rattle.automaton.proofs.BitLaws.{bit_high, same_true, same_false, one_true, one_false}
-use borrow.Author.Rules.{rules}
 use Rattle.automaton.proofs.evaluate.name_word.Goals as goal
 
 pub returns-then-b-eq1 : goal.returns-then-b-eq1

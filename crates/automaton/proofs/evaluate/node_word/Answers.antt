@@ -3,7 +3,6 @@ use mathlib.Core.Path.{◌≡◌}
 use native.Mathlib.Omega.{arith}
 use borrow.Author.Tests.{ne_eqb}
 use Rattle.automaton.specs.inner.Evaluation.{node_word}
-use borrow.Author.Rules.{rules}
 use Rattle.automaton.proofs.evaluate.node_word.Goals as goal
 
 pub returns-in-0 : goal.returns-in-0
@@ -65,6 +64,7 @@ pub returns-in-11 : goal.returns-in-11
 unfolding node_word
 returns-in-11 c =
     rw c.in-11.is
+
 pub returns-in_default : goal.returns-in_default
 unfolding node_word
 returns-in_default c =

@@ -1,7 +1,6 @@
 -- `automaton::evaluate::word_at` meets its contract: past the end `get_or` gives 0. Assumes nothing.
 use mathlib.Core.Path.{sym}
 use lib.ListN.{get_or-eq_default}
-use borrow.Author.Rules.{rules}
 use Rattle.automaton.proofs.evaluate.word_at.Goals as goal
 
 pub returns-else-k-words : goal.returns-else-k-words

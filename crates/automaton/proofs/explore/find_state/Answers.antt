@@ -1,12 +1,8 @@
 -- `automaton::explore::find_state` meets its contract. The invariant: none of the states below i is x.
 -- The measure is what is left of n. Assumes nothing.
-use Prim.Native.Nat.{ℕ, ◌-◌, ◌≤◌, ◌<◌}
-use mathlib.Core.Path.{◌≡◌}
 use native.Mathlib.Nat.{not-suc-le-zero}
 use native.Mathlib.Omega.{arith}
-use lib.ListN.{get_or}
 use borrow.Author.Count.{below_more}
-use borrow.Author.Rules.{rules}
 use Rattle.automaton.proofs.explore.find_state.Goals as goal
 
 pub returns-then-states-guess : goal.returns-then-states-guess

@@ -2,11 +2,7 @@
 -- The measure is what is left of n. Assumes nothing.
 use Prim.Native.Nat.{ℕ, ◌-◌, ◌≤◌, ◌<◌}
 use mathlib.Core.Path.{◌≡◌}
-use native.Mathlib.Nat.{not-suc-le-zero}
-use native.Mathlib.Omega.{arith}
 use lib.ListN.{get_or}
-use borrow.Author.Count.{below_more}
-use borrow.Author.Rules.{rules}
 use Rattle.automaton.proofs.explore.find_state.Given as goal
 
 abbrev pub invariant-loop-i : goal.invariant-loop-i

@@ -1,11 +1,10 @@
 -- `automaton::explore::list_letters` meets its contract. The invariant: after a letters the first n of the list are the states discovered.
 -- The measure is what is left of the letters. Assumes nothing.
-use Prim.Native.Nat.{ℕ, suc, ◌+◌, ◌-◌, ◌*◌, ◌^◌, ◌≤◌, ◌<◌}
+use Prim.Native.Nat.{ℕ, suc, ◌*◌, ◌^◌, ◌≤◌, ◌<◌}
 use mathlib.Core.Path.{◌≡◌, refl, sym, ◌∙◌, subst}
 use native.Mathlib.Nat.{add-zero}
 use native.Mathlib.Omega.{arith}
-use lib.ListN.{get_or, length, length-set}
-use borrow.Author.Rules.{rules}
+use lib.ListN.{get_or, length-set}
 use Rattle.reader.specs.Formula.{Formula, operators}
 use Rattle.automaton.specs.Limits.{state_limit}
 use Rattle.automaton.specs.State.{after}

@@ -1,18 +1,12 @@
 -- `automaton::explore::list_letters` meets its contract. The invariant: after a letters the first n of the list are the states discovered.
 -- The measure is what is left of the letters. Assumes nothing.
-use Prim.Native.Nat.{ℕ, suc, ◌+◌, ◌-◌, ◌*◌, ◌^◌, ◌≤◌, ◌<◌}
-use mathlib.Core.Path.{◌≡◌, refl, sym, ◌∙◌, subst}
-use native.Mathlib.Nat.{add-zero}
-use native.Mathlib.Omega.{arith}
-use lib.ListN.{get_or, length, length-set}
-use borrow.Author.Rules.{rules}
+use Prim.Native.Nat.{suc, ◌+◌, ◌-◌, ◌*◌, ◌^◌, ◌≤◌}
+use mathlib.Core.Path.{◌≡◌}
+use lib.ListN.{length}
 use Rattle.reader.specs.Formula.{Formula, operators}
 use Rattle.automaton.specs.Limits.{state_limit}
-use Rattle.automaton.specs.State.{after}
 use Rattle.automaton.specs.inner.Representation.{Tabulates}
 use Rattle.automaton.specs.inner.Exploration.{Listed}
-use Rattle.automaton.proofs.ListingLaws.{letter_twin, letter_old, letter_new, letter_over, letters_done}
-use Rattle.automaton.proofs.TwinLaws.{twin_after}
 use Rattle.automaton.proofs.explore.list_letters.Given as goal
 
 abbrev pub invariant-loop-a : goal.invariant-loop-a

@@ -1,8 +1,7 @@
 -- `automaton::explore::list_states` meets its contract. The invariant: after s states the first n of the list are the states discovered.
 -- The measure is what is left of the limit on states. Assumes nothing.
-use Prim.Native.Nat.{ℕ, suc, ◌-◌, ◌*◌, ◌^◌, ◌≤◌}
+use Prim.Native.Nat.{ℕ, suc, ◌*◌, ◌^◌}
 use mathlib.Core.Path.{◌≡◌, refl, sym, ap, ◌∙◌, subst}
-use mathlib.Core.List.{List}
 use native.Mathlib.Nat.{zero-mul}
 use native.Mathlib.Omega.{arith}
 use lib.ListN.{length, set, length-set}
@@ -12,7 +11,6 @@ use Rattle.automaton.specs.State.{start}
 use Rattle.automaton.specs.inner.Representation.{Tabulates}
 use Rattle.automaton.specs.inner.Exploration.{Listed, StateListed}
 use Rattle.automaton.proofs.ListingLaws.{listed_none, listed_all, next_state}
-use borrow.Author.Rules.{rules}
 use Rattle.automaton.proofs.explore.list_states.Goals as goal
 
 pub loop-s-init : goal.loop-s-init

@@ -1,18 +1,13 @@
 -- `automaton::explore::list_states` meets its contract. The invariant: after s states the first n of the list are the states discovered.
 -- The measure is what is left of the limit on states. Assumes nothing.
-use Prim.Native.Nat.{ℕ, suc, ◌-◌, ◌*◌, ◌^◌, ◌≤◌}
-use mathlib.Core.Path.{◌≡◌, refl, sym, ap, ◌∙◌, subst}
-use mathlib.Core.List.{List}
-use native.Mathlib.Nat.{zero-mul}
-use native.Mathlib.Omega.{arith}
-use lib.ListN.{length, set, length-set}
+use Prim.Native.Nat.{suc, ◌-◌, ◌*◌, ◌^◌, ◌≤◌}
+use mathlib.Core.Path.{◌≡◌}
+use lib.ListN.{length}
 use Rattle.reader.specs.Formula.{Formula, operators}
 use Rattle.automaton.specs.Limits.{state_limit}
 use Rattle.automaton.specs.State.{start}
 use Rattle.automaton.specs.inner.Representation.{Tabulates}
-use Rattle.automaton.specs.inner.Exploration.{Listed, StateListed}
-use Rattle.automaton.proofs.ListingLaws.{listed_none, listed_all, next_state}
-use borrow.Author.Rules.{rules}
+use Rattle.automaton.specs.inner.Exploration.{Listed}
 use Rattle.automaton.proofs.explore.list_states.Given as goal
 
 abbrev pub invariant-loop-s : goal.invariant-loop-s

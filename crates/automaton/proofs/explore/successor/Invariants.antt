@@ -1,12 +1,9 @@
 -- `automaton::explore::successor` meets its contract. The invariant: the first k pairs of bits of r are those of the next state.
 -- The measure is what is left of the pairs. Assumes nothing.
 use Prim.Native.Nat.{◌-◌, ◌*◌, ◌/◌, ◌≤◌}
-use mathlib.Core.Path.{◌≡◌, refl, ap, ◌∙◌}
-use native.Mathlib.Omega.{arith}
-use borrow.Author.Rules.{rules}
+use mathlib.Core.Path.{◌≡◌}
 use Rattle.automaton.specs.Bits.{of_bits}
-use Rattle.automaton.proofs.BitLaws.{of_bits_lt, pair_step, one_lt}
-use Rattle.automaton.proofs.SuccessorLaws.{held, held_after}
+use Rattle.automaton.proofs.SuccessorLaws.{held}
 use Rattle.automaton.proofs.explore.successor.Given as goal
 
 abbrev pub invariant-loop-k : goal.invariant-loop-k

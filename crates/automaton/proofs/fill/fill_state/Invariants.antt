@@ -1,20 +1,12 @@
 -- `automaton::fill::fill_state` meets its contract. The invariant: the first a letters of the row are written, and nothing beyond them.
 -- The measure is the number of letters that are left.
 -- Assumes nothing.
-use Prim.Native.Nat.{ℕ, suc, ◌+◌, ◌-◌, ◌*◌, ◌^◌, ◌≤◌, ◌<◌}
-use mathlib.Core.Path.{◌≡◌, refl, sym, subst}
-use native.Mathlib.Nat.{add-zero, mul-le-mul_right}
-use native.Mathlib.Omega.{arith}
-use lib.ListN.{length}
-use borrow.Author.Rules.{rules}
+use Prim.Native.Nat.{suc, ◌+◌, ◌-◌, ◌*◌, ◌^◌, ◌≤◌}
+use mathlib.Core.Path.{◌≡◌}
 use Rattle.reader.specs.Formula.{Formula, operators}
-use Rattle.automaton.specs.Limits.{state_limit}
 use Rattle.automaton.specs.Buffer.{Kept}
-use Rattle.automaton.specs.State.{after}
 use Rattle.automaton.specs.inner.Representation.{Tabulates}
 use Rattle.automaton.specs.inner.Exploration.{AllListed, Filled}
-use Rattle.automaton.proofs.FillingLaws.{Turn, turn_room, kept_stored, letter_twin, letter_place}
-use Rattle.automaton.proofs.TwinLaws.{twin_after}
 use Rattle.automaton.proofs.fill.fill_state.Given as goal
 
 abbrev pub invariant-loop-a : goal.invariant-loop-a

@@ -1,15 +1,12 @@
 -- `automaton::fill::fill_transitions` meets its contract. The invariant: the rows of the first s states are written, and nothing beyond them.
 -- The measure is the number of states that are left.
 -- Assumes nothing.
-use Prim.Native.Nat.{ℕ, suc, ◌-◌, ◌*◌, ◌^◌, ◌≤◌}
-use mathlib.Core.Path.{◌≡◌, refl, subst}
-use native.Mathlib.Omega.{arith}
-use borrow.Author.Rules.{rules}
+use Prim.Native.Nat.{suc, ◌-◌, ◌*◌, ◌^◌, ◌≤◌}
+use mathlib.Core.Path.{◌≡◌}
 use Rattle.reader.specs.Formula.{Formula, operators}
 use Rattle.automaton.specs.Buffer.{Kept}
 use Rattle.automaton.specs.inner.Representation.{Tabulates}
 use Rattle.automaton.specs.inner.Exploration.{AllListed, Filled}
-use Rattle.automaton.proofs.FillingLaws.{kept_row, filled_none, filled_row}
 use Rattle.automaton.proofs.fill.fill_transitions.Given as goal
 
 abbrev pub invariant-loop-s : goal.invariant-loop-s

@@ -1,16 +1,10 @@
 -- `automaton::fill::mark_states` meets its contract. The invariant: the flags below s are right, and those from s on are as they were.
 -- The measure is what is left of n. Assumes nothing.
-use Prim.Native.Nat.{ℕ, ◌-◌, ◌%◌, ◌≤◌, ◌<◌}
-use mathlib.Core.Path.{◌≡◌, refl, ◌∙◌, subst}
-use native.Mathlib.Nat.{not-suc-le-zero, mod-eq_of_lt}
-use native.Mathlib.Omega.{arith}
+use Prim.Native.Nat.{ℕ, ◌-◌, ◌≤◌, ◌<◌}
+use mathlib.Core.Path.{◌≡◌}
 use lib.ListN.{get_or}
-use borrow.Author.Rules.{rules}
 use Rattle.automaton.specs.Bits.{bit, one}
 use Rattle.automaton.specs.Buffer.{Kept}
-use Rattle.automaton.proofs.BitLaws.{one_lt}
-use Rattle.automaton.proofs.ArrayLaws.{stored_more}
-use Rattle.automaton.proofs.FillingLaws.{kept_stored}
 use Rattle.automaton.proofs.fill.mark_states.Given as goal
 
 abbrev pub invariant-loop-s : goal.invariant-loop-s

@@ -2,18 +2,14 @@
 use native.Mathlib.Omega.{arith}
 use mathlib.Core.Path.{◌≡◌, sym, ap, ap₂, ◌∙◌}
 use mathlib.Core.List.{◌∷◌}
-use Prim.Native.Nat.{ℕ, suc, ◌-◌, ◌≤◌, ◌<◌}
-use lib.ListN.{get_or, length, drop}
+use Prim.Native.Nat.{ℕ, ◌-◌}
+use lib.ListN.{get_or, drop}
 use lib.Dec.{eqb}
 use lib.Seq.{drop-length}
-use Rattle.reader.specs.Formula.{Formula, operators}
-use Rattle.automaton.specs.inner.Sizes.{vector_limit}
 use Rattle.automaton.specs.Bits.{bit}
 use Rattle.automaton.specs.Valuation.{present}
-use Rattle.automaton.specs.inner.Representation.{Represents}
 use Rattle.automaton.specs.inner.Fold.{valuation}
 use Rattle.automaton.proofs.LoopLaws.{one_test, drop_last}
-use borrow.Author.Rules.{rules}
 use Rattle.automaton.proofs.fold.satisfied.Goals as goal
 
 pub loop-i-init : goal.loop-i-init

@@ -1,19 +1,11 @@
 -- `automaton::fold::satisfied` meets its contract. The invariant: v is the valuation of the letters from i on. The measure is i. Assumes nothing.
-use native.Mathlib.Omega.{arith}
-use mathlib.Core.Path.{◌≡◌, sym, ap, ap₂, ◌∙◌}
-use mathlib.Core.List.{◌∷◌}
-use Prim.Native.Nat.{ℕ, suc, ◌-◌, ◌≤◌, ◌<◌}
-use lib.ListN.{get_or, length, drop}
-use lib.Dec.{eqb}
-use lib.Seq.{drop-length}
+use mathlib.Core.Path.{◌≡◌}
+use Prim.Native.Nat.{suc, ◌≤◌, ◌<◌}
+use lib.ListN.{length, drop}
 use Rattle.reader.specs.Formula.{Formula, operators}
 use Rattle.automaton.specs.inner.Sizes.{vector_limit}
-use Rattle.automaton.specs.Bits.{bit}
-use Rattle.automaton.specs.Valuation.{present}
 use Rattle.automaton.specs.inner.Representation.{Represents}
 use Rattle.automaton.specs.inner.Fold.{valuation}
-use Rattle.automaton.proofs.LoopLaws.{one_test, drop_last}
-use borrow.Author.Rules.{rules}
 use Rattle.automaton.proofs.fold.satisfied.Given as goal
 
 abbrev pub invariant-loop-i : goal.invariant-loop-i

@@ -3,7 +3,6 @@ use native.Mathlib.Omega.{arith}
 use mathlib.Core.Path.{sym, ◌∙◌}
 use Rattle.automaton.proofs.BitLaws.{one_true, one_false}
 use Rattle.automaton.proofs.OperatorLaws.{coordinate_temporal, coordinate_other}
-use borrow.Author.Rules.{rules}
 use Rattle.automaton.proofs.operators.operator_coordinate.Goals as goal
 
 pub returns-then-operator_bit-eq1 : goal.returns-then-operator_bit-eq1

@@ -3,12 +3,11 @@
 use native.Mathlib.Omega.{arith}
 use native.Mathlib.Numerals.{add-one}
 use mathlib.Core.Path.{◌≡◌, refl, ap, ◌∙◌}
-use Prim.Native.Nat.{◌+◌, ◌-◌, ◌≤◌}
+use Prim.Native.Nat.{◌+◌}
 use lib.ListN.{get_or}
 use Rattle.automaton.specs.Bits.{one}
 use Rattle.automaton.specs.inner.Coordinates.{is_temporal_node, operators_in}
 use Rattle.automaton.proofs.OperatorLaws.{all_counted}
-use borrow.Author.Rules.{rules}
 use Rattle.automaton.proofs.operators.operator_count.Goals as goal
 
 pub loop-i-init : goal.loop-i-init

@@ -1,14 +1,8 @@
 -- `automaton::operators::operator_count` meets its contract. The invariant: the operators among the nodes below i are counted. The measure is what
 -- is left of the nodes. Assumes nothing.
-use native.Mathlib.Omega.{arith}
-use native.Mathlib.Numerals.{add-one}
-use mathlib.Core.Path.{◌≡◌, refl, ap, ◌∙◌}
-use Prim.Native.Nat.{◌+◌, ◌-◌, ◌≤◌}
-use lib.ListN.{get_or}
-use Rattle.automaton.specs.Bits.{one}
-use Rattle.automaton.specs.inner.Coordinates.{is_temporal_node, operators_in}
-use Rattle.automaton.proofs.OperatorLaws.{all_counted}
-use borrow.Author.Rules.{rules}
+use mathlib.Core.Path.{◌≡◌}
+use Prim.Native.Nat.{◌-◌, ◌≤◌}
+use Rattle.automaton.specs.inner.Coordinates.{operators_in}
 use Rattle.automaton.proofs.operators.operator_count.Given as goal
 
 abbrev pub invariant-loop-i : goal.invariant-loop-i

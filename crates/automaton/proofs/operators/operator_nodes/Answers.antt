@@ -3,11 +3,8 @@
 use native.Mathlib.Omega.{arith}
 use native.Mathlib.Numerals.{add-one}
 use mathlib.Core.Path.{◌≡◌, refl}
-use Prim.Native.Nat.{◌-◌, ◌≤◌}
-use lib.ListN.{length, length-set}
-use Rattle.automaton.specs.inner.Coordinates.{place_count, Located}
+use lib.ListN.{length-set}
 use Rattle.automaton.proofs.OperatorLaws.{located_none, located_more}
-use borrow.Author.Rules.{rules}
 use Rattle.automaton.proofs.operators.operator_nodes.Goals as goal
 
 pub loop-i-init : goal.loop-i-init

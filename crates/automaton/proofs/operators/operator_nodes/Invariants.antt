@@ -1,13 +1,9 @@
 -- `automaton::operators::operator_nodes` meets its contract. The invariant: the coordinates of the nodes below i have their last node. The measure
 -- is what is left of the nodes. Assumes nothing.
-use native.Mathlib.Omega.{arith}
-use native.Mathlib.Numerals.{add-one}
-use mathlib.Core.Path.{◌≡◌, refl}
+use mathlib.Core.Path.{◌≡◌}
 use Prim.Native.Nat.{◌-◌, ◌≤◌}
-use lib.ListN.{length, length-set}
+use lib.ListN.{length}
 use Rattle.automaton.specs.inner.Coordinates.{place_count, Located}
-use Rattle.automaton.proofs.OperatorLaws.{located_none, located_more}
-use borrow.Author.Rules.{rules}
 use Rattle.automaton.proofs.operators.operator_nodes.Given as goal
 
 abbrev pub invariant-loop-i : goal.invariant-loop-i

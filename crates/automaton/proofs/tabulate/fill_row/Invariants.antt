@@ -1,12 +1,9 @@
 -- `automaton::tabulate::fill_row` meets its contract. The invariant: the entries below k of the row are made, and those in front of the row are
 -- kept. The measure is what is left of the row. Assumes nothing.
-use native.Mathlib.Omega.{arith}
-use mathlib.Core.Path.{◌≡◌, refl}
+use mathlib.Core.Path.{◌≡◌}
 use Prim.Native.Nat.{ℕ, ◌+◌, ◌-◌, ◌*◌, ◌≤◌, ◌<◌}
-use lib.ListN.{get_or, length, length-set}
+use lib.ListN.{get_or, length}
 use Rattle.automaton.specs.Bits.{bit, of_bits}
-use Rattle.automaton.proofs.LoopLaws.{row_more, front_more}
-use borrow.Author.Rules.{rules}
 use Rattle.automaton.proofs.tabulate.fill_row.Given as goal
 
 abbrev pub invariant-loop-k : goal.invariant-loop-k

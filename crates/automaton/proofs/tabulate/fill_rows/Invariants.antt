@@ -1,16 +1,12 @@
 -- `automaton::tabulate::fill_rows` meets its contract. The invariant: the rows of the letters below a hold their valuations. The measure is what is
 -- left of the letters. Assumes nothing.
-use native.Mathlib.Omega.{arith}
-use mathlib.Core.Path.{◌≡◌, refl, ◌∙◌}
+use mathlib.Core.Path.{◌≡◌}
 use Prim.Native.Nat.{ℕ, suc, ◌+◌, ◌-◌, ◌*◌, ◌≤◌, ◌<◌}
 use lib.ListN.{get_or, length}
 use Rattle.reader.specs.Formula.{Formula, operators}
 use Rattle.automaton.specs.inner.Sizes.{pair_limit}
 use Rattle.automaton.specs.Valuation.{present}
 use Rattle.automaton.specs.inner.Representation.{Represents}
-use Rattle.automaton.proofs.CoordinateLaws.{present_from}
-use Rattle.automaton.proofs.LoopLaws.{rows_more, rows_tabulate}
-use borrow.Author.Rules.{rules}
 use Rattle.automaton.proofs.tabulate.fill_rows.Given as goal
 
 abbrev pub invariant-loop-a : goal.invariant-loop-a

@@ -2,7 +2,6 @@
 use native.Mathlib.Omega.{arith}
 use Rattle.reader.specs.Formula.{operators}
 use Rattle.automaton.proofs.BitLaws.{half_few, half_shifted}
-use borrow.Author.Rules.{rules}
 use Rattle.automaton.proofs.tabulate.tabulate.Goals as goal
 
 pub fill_rows-requires : goal.fill_rows-requires

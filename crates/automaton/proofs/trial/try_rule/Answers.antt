@@ -1,14 +1,11 @@
 -- `automaton::trial::try_rule` meets its contract: each return is the case of the promise that the tests before it decided.
 -- Assumes nothing.
-use borrow.Author.Rules.{rules}
-use mathlib.Core.Path.{◌≡◌, refl, sym, ap, ◌∙◌, subst}
+use mathlib.Core.Path.{◌≡◌, refl, sym, ap, ◌∙◌}
 use mathlib.Core.Bool.{Bool, true, false, cond}
-use mathlib.Core.List.{List}
-use Prim.Native.Nat.{ℕ, suc, ◌+◌, ◌≤◌}
+use Prim.Native.Nat.{ℕ, suc, ◌+◌}
 use native.Mathlib.Omega.{arith}
 use Rattle.reader.specs.Limits.{too_long}
 use Rattle.reader.specs.Formula.{operators}
-use Rattle.reader.proofs.RefusalLaws.{not_good}
 use Rattle.automaton.specs.declared.trial.Trial.{Trial}
 use Rattle.automaton.specs.declared.trial.Trial.TheVariants.{Satisfied, Violated}
 use Rattle.automaton.specs.Alphabet.{bad_alphabet, letter_count, first_over}

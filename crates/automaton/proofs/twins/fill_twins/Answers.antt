@@ -1,12 +1,11 @@
 -- `automaton::twins::fill_twins` meets its contract. The invariant: the letters below a have their twins. The measure is what is left of
 -- the letters. Assumes nothing.
-use Prim.Native.Nat.{ℕ, ◌-◌, ◌≤◌}
+use Prim.Native.Nat.{ℕ}
 use mathlib.Core.Path.{◌≡◌, refl, subst}
 use native.Mathlib.Omega.{arith}
-use lib.ListN.{length, length-set}
+use lib.ListN.{length-set}
 use Rattle.automaton.specs.inner.Representation.{Twins}
 use Rattle.automaton.proofs.TwinLaws.{twins_none, twins_more}
-use borrow.Author.Rules.{rules}
 use Rattle.automaton.proofs.twins.fill_twins.Goals as goal
 
 pub loop-a-init : goal.loop-a-init

@@ -1,12 +1,9 @@
 -- `automaton::twins::fill_twins` meets its contract. The invariant: the letters below a have their twins. The measure is what is left of
 -- the letters. Assumes nothing.
-use Prim.Native.Nat.{ℕ, ◌-◌, ◌≤◌}
-use mathlib.Core.Path.{◌≡◌, refl, subst}
-use native.Mathlib.Omega.{arith}
-use lib.ListN.{length, length-set}
+use Prim.Native.Nat.{◌-◌, ◌≤◌}
+use mathlib.Core.Path.{◌≡◌}
+use lib.ListN.{length}
 use Rattle.automaton.specs.inner.Representation.{Twins}
-use Rattle.automaton.proofs.TwinLaws.{twins_none, twins_more}
-use borrow.Author.Rules.{rules}
 use Rattle.automaton.proofs.twins.fill_twins.Given as goal
 
 abbrev pub invariant-loop-a : goal.invariant-loop-a

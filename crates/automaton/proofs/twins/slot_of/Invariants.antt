@@ -1,7 +1,5 @@
 -- `automaton::twins::slot_of` meets its contract: any key has a slot. The measure is what is left of the row. Assumes nothing.
 use Prim.Native.Nat.{◌-◌, ◌≤◌}
-use native.Mathlib.Omega.{arith}
-use borrow.Author.Rules.{rules}
 use Rattle.automaton.proofs.twins.slot_of.Given as goal
 
 abbrev pub invariant-loop-k : goal.invariant-loop-k

@@ -1,7 +1,6 @@
 -- `automaton::twins::twin_of` meets its contract. Assumes nothing.
 use mathlib.Core.Path.{refl}
 use native.Mathlib.Omega.{arith}
-use borrow.Author.Rules.{rules}
 use Rattle.automaton.proofs.twins.twin_of.Goals as goal
 
 pub returns-then-same_row : goal.returns-then-same_row

@@ -2,13 +2,11 @@
 -- of the coordinates. Assumes nothing.
 use native.Mathlib.Omega.{arith}
 use mathlib.Core.Path.{◌≡◌, refl, ap, ◌∙◌}
-use Prim.Native.Nat.{ℕ, ◌-◌, ◌≤◌, ◌<◌}
-use lib.ListN.{get_or, length, length-set}
+use Prim.Native.Nat.{ℕ}
+use lib.ListN.{get_or, length-set}
 use native.Mathlib.Nat.{not-suc-le-zero}
-use Rattle.automaton.specs.inner.Sizes.{coordinate_limit}
 use Rattle.automaton.specs.inner.Coordinates.{owner}
 use Rattle.automaton.proofs.ArrayLaws.{stored_more}
-use borrow.Author.Rules.{rules}
 use Rattle.automaton.proofs.valuation.coordinate_words.Goals as goal
 
 pub loop-j-init : goal.loop-j-init

@@ -1,14 +1,10 @@
 -- `automaton::valuation::coordinate_words` meets its contract. The invariant: the coordinates below j have their words. The measure is what is left
 -- of the coordinates. Assumes nothing.
-use native.Mathlib.Omega.{arith}
-use mathlib.Core.Path.{◌≡◌, refl, ap, ◌∙◌}
+use mathlib.Core.Path.{◌≡◌}
 use Prim.Native.Nat.{ℕ, ◌-◌, ◌≤◌, ◌<◌}
-use lib.ListN.{get_or, length, length-set}
-use native.Mathlib.Nat.{not-suc-le-zero}
+use lib.ListN.{get_or, length}
 use Rattle.automaton.specs.inner.Sizes.{coordinate_limit}
 use Rattle.automaton.specs.inner.Coordinates.{owner}
-use Rattle.automaton.proofs.ArrayLaws.{stored_more}
-use borrow.Author.Rules.{rules}
 use Rattle.automaton.proofs.valuation.coordinate_words.Given as goal
 
 abbrev pub invariant-loop-j : goal.invariant-loop-j

@@ -6,7 +6,6 @@ use Rattle.automaton.specs.Bits.{one}
 use Rattle.automaton.specs.inner.Nodes.{node_kind}
 use Rattle.automaton.specs.inner.Coordinates.{end_of, end_bit}
 use Rattle.automaton.proofs.CoordinateLaws.{end_suc}
-use borrow.Author.Rules.{rules}
 use Rattle.automaton.proofs.valuation.end_bit.Goals as goal
 
 pub returns-then-j-eq0 : goal.returns-then-j-eq0

@@ -3,7 +3,6 @@ use mathlib.Core.Path.{◌∙◌, ap}
 use Rattle.automaton.specs.Bits.{of_bits}
 use Rattle.automaton.specs.inner.Coordinates.{end_bit}
 use Rattle.automaton.proofs.CoordinateLaws.{ended_vector, of_bits_small}
-use borrow.Author.Rules.{rules}
 use Rattle.automaton.proofs.valuation.end_vector.Goals as goal
 
 pub returns : goal.returns

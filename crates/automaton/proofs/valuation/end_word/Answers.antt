@@ -1,11 +1,9 @@
 -- `automaton::valuation::end_word` meets its contract. The invariant: the bits below j are set. The measure is what is left of the width. Assumes nothing.
 use native.Mathlib.Omega.{arith}
 use mathlib.Core.Path.{◌≡◌, refl, ap, ◌∙◌}
-use Prim.Native.Nat.{◌-◌, ◌≤◌}
 use Rattle.automaton.specs.Bits.{of_bits}
 use Rattle.automaton.proofs.BitLaws.{of_bits_lt, of_bits_step, one_lt}
 use Rattle.automaton.specs.inner.Coordinates.{end_bit}
-use borrow.Author.Rules.{rules}
 use Rattle.automaton.proofs.valuation.end_word.Goals as goal
 
 pub loop-j-init : goal.loop-j-init

@@ -1,6 +1,5 @@
 -- `automaton::valuation::letter_words` meets its contract: the coordinates' words come from evaluated nodes. Assumes nothing.
 use Rattle.automaton.proofs.CoordinateLaws.{made_present}
-use borrow.Author.Rules.{rules}
 use Rattle.automaton.proofs.valuation.letter_words.Goals as goal
 
 pub returns : goal.returns

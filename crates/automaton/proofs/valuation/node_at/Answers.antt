@@ -1,7 +1,6 @@
 -- `automaton::valuation::node_at` meets its contract: past the end `get_or` gives 0. Assumes nothing.
 use mathlib.Core.Path.{sym}
 use lib.ListN.{get_or-eq_default}
-use borrow.Author.Rules.{rules}
 use Rattle.automaton.proofs.valuation.node_at.Goals as goal
 
 pub returns-else-k-nodes : goal.returns-else-k-nodes

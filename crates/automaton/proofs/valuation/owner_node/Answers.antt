@@ -5,7 +5,6 @@ use lib.ListN.{get_or}
 use Rattle.automaton.specs.inner.Nodes.{node_kind}
 use Rattle.automaton.specs.inner.Coordinates.{owner_of, owner}
 use Rattle.automaton.proofs.CoordinateLaws.{owner_suc}
-use borrow.Author.Rules.{rules}
 use Rattle.automaton.proofs.valuation.owner_node.Goals as goal
 
 pub returns-then-j-eq0 : goal.returns-then-j-eq0

@@ -1,7 +1,6 @@
 -- `automaton::valuation::owner_of` meets its contract. Assumes nothing.
 use borrow.Author.Tests.{ne_eqb}
 use Rattle.automaton.specs.inner.Coordinates.{owner_of}
-use borrow.Author.Rules.{rules}
 use Rattle.automaton.proofs.valuation.owner_of.Goals as goal
 
 pub returns-then-kind-eq4 : goal.returns-then-kind-eq4

@@ -1,7 +1,6 @@
 -- `automaton::valuation::present_vector` meets its contract. Assumes nothing.
 use mathlib.Core.Path.{◌∙◌}
 use Rattle.automaton.proofs.CoordinateLaws.{present_from}
-use borrow.Author.Rules.{rules}
 use Rattle.automaton.proofs.valuation.present_vector.Goals as goal
 
 pub returns : goal.returns

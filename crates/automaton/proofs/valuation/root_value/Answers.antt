@@ -6,7 +6,6 @@ use lib.ListN.{get_or}
 use Rattle.automaton.specs.Bits.{bit, one}
 use Rattle.automaton.proofs.BitLaws.{one_lt}
 use Rattle.automaton.proofs.CoordinateLaws.{root_bit}
-use borrow.Author.Rules.{rules}
 use Rattle.automaton.proofs.valuation.root_value.Goals as goal
 
 pub returns : goal.returns

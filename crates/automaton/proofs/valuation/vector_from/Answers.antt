@@ -3,11 +3,10 @@ use Rattle.automaton.proofs.CoordinateLaws.{of_bits_small}
 use native.Mathlib.Omega.{arith}
 use mathlib.Core.Path.{◌≡◌, refl, ap, ◌∙◌}
 use mathlib.Core.Bool.{Bool}
-use Prim.Native.Nat.{ℕ, ◌-◌, ◌≤◌}
+use Prim.Native.Nat.{ℕ}
 use lib.ListN.{get_or}
 use Rattle.automaton.specs.Bits.{bit, of_bits}
 use Rattle.automaton.proofs.BitLaws.{of_bits_lt, of_bits_step, one_lt}
-use borrow.Author.Rules.{rules}
 use Rattle.automaton.proofs.valuation.vector_from.Goals as goal
 
 pub loop-j-init : goal.loop-j-init

@@ -1,13 +1,8 @@
 -- `automaton::valuation::vector_from` meets its contract. The invariant: the bits below j are set. The measure is what is left of the width. Assumes nothing.
-use Rattle.automaton.proofs.CoordinateLaws.{of_bits_small}
-use native.Mathlib.Omega.{arith}
-use mathlib.Core.Path.{◌≡◌, refl, ap, ◌∙◌}
-use mathlib.Core.Bool.{Bool}
-use Prim.Native.Nat.{ℕ, ◌-◌, ◌≤◌}
+use mathlib.Core.Path.{◌≡◌}
+use Prim.Native.Nat.{◌-◌, ◌≤◌}
 use lib.ListN.{get_or}
 use Rattle.automaton.specs.Bits.{bit, of_bits}
-use Rattle.automaton.proofs.BitLaws.{of_bits_lt, of_bits_step, one_lt}
-use borrow.Author.Rules.{rules}
 use Rattle.automaton.proofs.valuation.vector_from.Given as goal
 
 abbrev pub invariant-loop-j : goal.invariant-loop-j

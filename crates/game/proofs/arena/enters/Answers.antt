@@ -1,6 +1,6 @@
 -- `game::arena::enters` meets its contract: the index is below the number of transitions, and each is a state.
 -- Assumes nothing.
-use Rattle.std.proofs.Common.{ℕ, ◌<◌, sym, subst, arith, rules}
+use Rattle.std.proofs.Common.{ℕ, ◌<◌, sym, subst, arith}
 use Rattle.plays.specs.Arena.{next}
 use Rattle.game.proofs.IndexLaws.{At, at_facts}
 use Rattle.game.proofs.arena.enters.Goals as goal

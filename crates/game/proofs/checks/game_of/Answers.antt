@@ -1,6 +1,5 @@
 -- `game::checks::game_of` meets its contract: the mode's truth value, the mask, and the sizes.
 -- Assumes nothing.
-use Rattle.std.proofs.Common.{rules}
 use Rattle.game.proofs.checks.game_of.Goals as goal
 
 pub sizes_of-sizes-requires : goal.sizes_of-sizes-requires

@@ -1,6 +1,6 @@
 -- `game::checks::is_fair` meets its contract: the two cases.
 -- Assumes nothing.
-use Rattle.std.proofs.Common.{sym, ap, rules}
+use Rattle.std.proofs.Common.{sym, ap}
 use Rattle.plays.specs.inner.Rank.{is_fair}
 use Rattle.game.proofs.checks.is_fair.Goals as goal
 

@@ -1,6 +1,6 @@
 -- `game::checks::sizes_of` meets its contract: the fields, one by one.
 -- Assumes nothing.
-use Rattle.std.proofs.Common.{arith, rules}
+use Rattle.std.proofs.Common.{arith}
 use Rattle.automaton.proofs.AlphabetLaws.{inputs_fit, outputs_fit, power_is}
 use Rattle.game.proofs.checks.sizes_of.Goals as goal
 

@@ -1,9 +1,9 @@
 -- `game::given::given_refusal` meets its contract: the first two tests, and then the others on the arena of these numbers.
 -- Assumes nothing.
-use Rattle.std.proofs.Common.{◌≡◌, false, sym, ◌∙◌, subst, rules}
+use Rattle.std.proofs.Common.{◌≡◌, false, sym, ◌∙◌, subst}
 use Rattle.automaton.specs.Alphabet.{bad_alphabet}
 use Rattle.game.specs.declared.arena.Sizes.{Sizes}
-use Rattle.plays.specs.Arena.{Arena, arena}
+use Rattle.plays.specs.Arena.{arena}
 use Rattle.game.specs.inner.Game.{arena_at}
 use Rattle.game.specs.inner.Checks.{InRange}
 use Rattle.game.specs.Given.{bad_count, later_refusal}

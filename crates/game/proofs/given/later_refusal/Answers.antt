@@ -1,7 +1,6 @@
 -- `game::given::later_refusal` meets its contract: each return by the test that decides.
 -- Assumes nothing.
-use Rattle.std.proofs.Common.{◌≡◌, false, sym, ◌∙◌, mul-le-mul, arith, length-take-le, rules}
-use Rattle.plays.specs.Arena.{Arena}
+use Rattle.std.proofs.Common.{◌≡◌, false, sym, ◌∙◌, mul-le-mul, arith, length-take-le}
 use Rattle.game.specs.inner.Game.{arena_at}
 use Rattle.game.specs.Given.{short_read, short_tables, bad_mask, move_count}
 use Rattle.game.proofs.CheckLaws.{transitions_long}

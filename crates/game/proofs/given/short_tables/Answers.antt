@@ -1,6 +1,6 @@
 -- `game::given::short_tables` meets its contract: the two tests.
 -- Assumes nothing.
-use Rattle.std.proofs.Common.{sym, ◌∙◌, rules}
+use Rattle.std.proofs.Common.{sym, ◌∙◌}
 use Rattle.game.proofs.given.short_tables.Goals as goal
 
 pub returns-then-short_strategy : goal.returns-then-short_strategy

@@ -1,6 +1,6 @@
 -- `game::needs::first_needs` meets its contract. The invariant: the states below s are marked. The measure is the number of states left.
 -- Assumes nothing.
-use Rattle.std.proofs.Common.{◌≡◌, ℕ, ◌+◌, ◌-◌, ◌≤◌, List, length, get_or, replicate, sym, refl, ◌∙◌, subst, ⊎_elim, arith, length-set, rules}
+use Rattle.std.proofs.Common.{◌≡◌, ℕ, ◌+◌, List, length, get_or, replicate, sym, refl, ◌∙◌, subst, arith, length-set, rules}
 use Rattle.automaton.specs.Limits.{state_limit}
 use Rattle.game.specs.inner.Needs.{Marked}
 use Rattle.reader.proofs.BoolLaws.{positive}

@@ -1,11 +1,8 @@
 -- `game::needs::first_needs` meets its contract. The invariant: the states below s are marked. The measure is the number of states left.
 -- Assumes nothing.
-use Rattle.std.proofs.Common.{◌≡◌, ℕ, ◌+◌, ◌-◌, ◌≤◌, List, length, get_or, replicate, sym, refl, ◌∙◌, subst, ⊎_elim, arith, length-set, rules}
+use Rattle.std.proofs.Common.{◌≡◌, ◌-◌, ◌≤◌, length}
 use Rattle.automaton.specs.Limits.{state_limit}
 use Rattle.game.specs.inner.Needs.{Marked}
-use Rattle.reader.proofs.BoolLaws.{positive}
-use Rattle.game.proofs.LimitLaws.{zeros}
-use Rattle.game.proofs.NarrowLaws.{none_marked, mark_stays, mark_more, mark_over}
 use Rattle.game.proofs.needs.first_needs.Given as goal
 
 abbrev pub invariant-loop-s : goal.invariant-loop-s

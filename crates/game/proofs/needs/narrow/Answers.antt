@@ -1,10 +1,9 @@
 -- `game::needs::narrow` meets its contract. The invariant: with the limit low the start has no need, and with the limit high it has one. The measure is the
 -- distance between the two.
 -- Assumes nothing.
-use Rattle.std.proofs.Common.{◌≡◌, ◌-◌, ◌<◌, length, arith, rules}
+use Rattle.std.proofs.Common.{◌<◌, arith}
 use Rattle.automaton.specs.Limits.{state_limit}
-use Rattle.game.specs.inner.Game.{arena_of}
-use Rattle.game.proofs.NarrowLaws.{bounds_less, Between, search_starts, search_higher, search_lower, search_ends}
+use Rattle.game.proofs.NarrowLaws.{bounds_less, search_starts, search_higher, search_lower, search_ends}
 use Rattle.game.proofs.needs.narrow.Goals as goal
 
 pub first_needs-needs-requires : goal.first_needs-needs-requires

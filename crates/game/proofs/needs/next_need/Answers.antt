@@ -1,7 +1,7 @@
 -- `game::needs::next_need` meets its contract: for a need of at most the limit the first unserved input decides, if there is one, and whether it has the
 -- condition.
 -- Assumes nothing.
-use Rattle.std.proofs.Common.{ℕ, ◌<◌, ◌≤◌, get_or, sym, ◌∙◌, subst, arith, rules}
+use Rattle.std.proofs.Common.{ℕ, ◌<◌, ◌≤◌, get_or, sym, ◌∙◌, subst, arith}
 use Rattle.plays.specs.Arena.{holds}
 use Rattle.game.specs.inner.Game.{arena_of}
 use Rattle.game.specs.inner.Needs.{NextNeed}

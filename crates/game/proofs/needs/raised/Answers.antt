@@ -1,6 +1,6 @@
 -- `game::needs::raised` meets its contract: the two cases of the next need.
 -- Assumes nothing.
-use Rattle.std.proofs.Common.{sym, rules}
+use Rattle.std.proofs.Common.{sym}
 use Rattle.game.proofs.LiftLaws.{raised_low, raised_high}
 use Rattle.game.proofs.needs.raised.Goals as goal
 

@@ -1,13 +1,9 @@
 -- `game::needs::settled` meets its contract. The invariant: the system is beaten as the needs say, and no state has one anew. The measure is how much the needs
 -- can still rise.
 -- Assumes nothing.
-use Rattle.std.proofs.Common.{◌≡◌, ◌+◌, ◌-◌, ◌*◌, length, arith, rules}
-use Rattle.automaton.specs.Limits.{state_limit}
-use Rattle.game.specs.inner.Game.{arena_of}
-use Rattle.game.specs.inner.Needs.{Bounds, Shrinks}
-use Rattle.reader.proofs.BoolLaws.{not_true→, not_false→}
+use Rattle.std.proofs.Common.{arith}
 use Rattle.game.proofs.LiftLaws.{sweeps_end, sweeps_low}
-use Rattle.game.proofs.HeightLaws.{height_sum, sum_bound, sum_more}
+use Rattle.game.proofs.HeightLaws.{sum_bound, sum_more}
 use Rattle.game.proofs.needs.settled.Goals as goal
 
 pub loop-needs-init : goal.loop-needs-init

@@ -1,13 +1,11 @@
 -- `game::needs::settled` meets its contract. The invariant: the system is beaten as the needs say, and no state has one anew. The measure is how much the needs
 -- can still rise.
 -- Assumes nothing.
-use Rattle.std.proofs.Common.{◌≡◌, ◌+◌, ◌-◌, ◌*◌, length, arith, rules}
+use Rattle.std.proofs.Common.{◌≡◌, ◌+◌, ◌-◌, ◌*◌, length}
 use Rattle.automaton.specs.Limits.{state_limit}
 use Rattle.game.specs.inner.Game.{arena_of}
 use Rattle.game.specs.inner.Needs.{Bounds, Shrinks}
-use Rattle.reader.proofs.BoolLaws.{not_true→, not_false→}
-use Rattle.game.proofs.LiftLaws.{sweeps_end, sweeps_low}
-use Rattle.game.proofs.HeightLaws.{height_sum, sum_bound, sum_more}
+use Rattle.game.proofs.HeightLaws.{height_sum}
 use Rattle.game.proofs.needs.settled.Given as goal
 
 abbrev pub invariant-loop-needs : goal.invariant-loop-needs

@@ -1,11 +1,9 @@
 -- `game::needs::sweep` meets its contract. The invariant: the sweep has been made over the states below s. The measure is the number of states left.
 -- Assumes nothing.
-use Rattle.std.proofs.Common.{◌≡◌, ℕ, ◌+◌, ◌-◌, ◌<◌, ◌≤◌, Bool, List, length, sym, ◌∙◌, subst₂, ⊎_elim, arith, length-set, rules}
+use Rattle.std.proofs.Common.{◌≡◌, ◌-◌, ◌≤◌, length}
 use Rattle.automaton.specs.Limits.{state_limit}
-use Rattle.plays.specs.Arena.{Arena}
 use Rattle.game.specs.inner.Game.{arena_of}
 use Rattle.game.specs.inner.Needs.{Swept}
-use Rattle.game.proofs.LiftLaws.{sweep_starts, sweep_stays, sweep_lifts, sweep_over}
 use Rattle.game.proofs.needs.sweep.Given as goal
 
 abbrev pub invariant-loop-s : goal.invariant-loop-s

@@ -1,7 +1,5 @@
 -- `game::rounds::attracted` meets its contract: a ranked state is left, and the first unserved input decides on the others.
 -- Assumes nothing.
-use Rattle.std.proofs.Common.{rules}
-use Rattle.reader.proofs.BoolLaws.{not_true→, not_false→}
 use Rattle.game.proofs.AttractionLaws.{attracted_not, attracted_fair, attracted_stable}
 use Rattle.game.proofs.rounds.attracted.Goals as goal
 

@@ -1,14 +1,11 @@
 -- `game::rounds::inner_ranks` meets its contract. The invariant: the ranks are those of the passes before p, a state that a pass left out stays
 -- kept from the ranks below that pass, and at least p - 1 states have a rank. The measure is the number of passes that there can still be.
 -- Assumes nothing.
-use Rattle.std.proofs.Common.{◌≡◌, ◌+◌, ◌-◌, ◌<◌, ◌≤◌, length, replicate, refl, arith, rules}
+use Rattle.std.proofs.Common.{◌≡◌, ◌+◌, ◌-◌, ◌≤◌, length}
 use Rattle.automaton.specs.Limits.{state_limit}
-use Rattle.plays.specs.Arena.{Arena}
 use Rattle.game.specs.inner.Game.{arena_of}
 use Rattle.game.specs.inner.Rounds.{InnerRanks, Stayed}
-use Rattle.game.proofs.CountLaws.{ranked_count, count_bound, count_more}
-use Rattle.game.proofs.LimitLaws.{zeros}
-use Rattle.game.proofs.PassLaws.{no_ranks, no_passes, pass_stayed, passes_end}
+use Rattle.game.proofs.CountLaws.{ranked_count}
 use Rattle.game.proofs.rounds.inner_ranks.Given as goal
 
 abbrev pub invariant-loop-g : goal.invariant-loop-g

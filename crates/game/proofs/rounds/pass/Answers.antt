@@ -1,8 +1,7 @@
 -- `game::rounds::pass` meets its contract. The invariant: the pass has been made over the states below s. The measure is the number of states left.
 -- Assumes nothing.
-use Rattle.std.proofs.Common.{◌≡◌, ℕ, ◌+◌, ◌-◌, ◌≤◌, Bool, List, length, sym, ◌∙◌, subst₂, ⊎_elim, arith, length-set, rules}
+use Rattle.std.proofs.Common.{◌≡◌, ℕ, ◌+◌, Bool, List, length, sym, ◌∙◌, subst₂, arith, length-set, rules}
 use Rattle.automaton.specs.Limits.{state_limit}
-use Rattle.plays.specs.Arena.{Arena}
 use Rattle.game.specs.inner.Game.{arena_of}
 use Rattle.game.specs.inner.Rounds.{Passed}
 use Rattle.game.proofs.PassLaws.{pass_starts, pass_stays, pass_gains, pass_over}

@@ -1,9 +1,8 @@
 -- `game::rounds::promote` meets its contract. The invariant: the states below s have been promoted. The measure is the number of states left.
 -- Assumes nothing.
-use Rattle.std.proofs.Common.{◌≡◌, ℕ, ◌+◌, ◌-◌, ◌≤◌, Bool, List, length, sym, ◌∙◌, subst₂, ⊎_elim, arith, length-set, rules}
+use Rattle.std.proofs.Common.{◌≡◌, ◌-◌, ◌≤◌, length}
 use Rattle.automaton.specs.Limits.{state_limit}
 use Rattle.game.specs.inner.Rounds.{Promoted}
-use Rattle.game.proofs.PromotionLaws.{promotion_starts, promotion_stays, promotion_gains, promotion_over}
 use Rattle.game.proofs.rounds.promote.Given as goal
 
 abbrev pub invariant-loop-s : goal.invariant-loop-s

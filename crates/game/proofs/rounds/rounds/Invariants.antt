@@ -1,14 +1,12 @@
 -- `game::rounds::rounds` meets its contract. The invariant: the outer ranks are those of the rounds before r, at least r - 1 states have one, and the inner
 -- ranks are complete against them. The measure is the number of rounds that there can still be.
 -- Assumes nothing.
-use Rattle.std.proofs.Common.{◌≡◌, ◌+◌, ◌-◌, ◌<◌, ◌≤◌, length, replicate, refl, arith, rules}
+use Rattle.std.proofs.Common.{◌≡◌, ◌+◌, ◌-◌, ◌≤◌, length}
 use Rattle.automaton.specs.Limits.{state_limit}
-use Rattle.plays.specs.Arena.{Arena}
 use Rattle.game.specs.inner.Game.{arena_of}
 use Rattle.game.specs.inner.Rounds.{Attraction}
-use Rattle.game.proofs.CountLaws.{ranked_count, count_bound, count_more}
-use Rattle.game.proofs.LimitLaws.{zeros}
-use Rattle.game.proofs.OuterRankLaws.{OuterRanks, Certified, no_rounds, round_more, round_grows, rounds_end, found_fair, found_stable}
+use Rattle.game.proofs.CountLaws.{ranked_count}
+use Rattle.game.proofs.OuterRankLaws.{OuterRanks}
 use Rattle.game.proofs.rounds.rounds.Given as goal
 
 abbrev pub invariant-loop-inner : goal.invariant-loop-inner

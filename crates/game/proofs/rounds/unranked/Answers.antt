@@ -1,6 +1,6 @@
 -- `game::rounds::unranked` meets its contract: both ranks are looked at.
 -- Assumes nothing.
-use Rattle.std.proofs.Common.{get_or, rules, eqb-true}
+use Rattle.std.proofs.Common.{get_or, eqb-true}
 use borrow.Author.Tests.{eqb-false}
 use Rattle.game.proofs.rounds.unranked.Goals as goal
 

@@ -1,6 +1,6 @@
 -- `game::rule::check_rule` meets its contract: each return is the case that the tests before it decided.
 -- Assumes nothing.
-use Rattle.std.proofs.Common.{◌≡◌, false, sym, ◌∙◌, rules}
+use Rattle.std.proofs.Common.{◌≡◌, false, sym, ◌∙◌}
 use Rattle.reader.specs.Limits.{too_long}
 use Rattle.automaton.specs.Alphabet.{bad_alphabet}
 use Rattle.game.proofs.RuleCheckLaws.{by_alphabet, by_rule_length, by_condition_length}

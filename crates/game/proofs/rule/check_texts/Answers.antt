@@ -1,11 +1,10 @@
 -- `game::rule::check_texts` meets its contract: the rule's refusal, the condition's, or none and the mask.
 -- Assumes nothing.
-use Rattle.std.proofs.Common.{subst, arith, rules}
+use Rattle.std.proofs.Common.{subst, arith}
 use Rattle.reader.specs.declared.reading.Reading.{Reading}
 use Rattle.reader.specs.Marks.{rule_kind}
 use Rattle.reader.specs.Reading.{ReadingOf}
 use Rattle.reader.specs.declared.reading.Reading.TheVariants.{Good}
-use Rattle.reader.proofs.RefusalLaws.{not_good}
 use Rattle.automaton.specs.declared.condition.Assumption.{Assumption}
 use Rattle.automaton.specs.Condition.{Conditioned}
 use Rattle.automaton.proofs.AlphabetLaws.{inputs_fit, outputs_fit}

@@ -1,7 +1,7 @@
 -- `game::rule::solve_rule` meets its contract: a refusal before the states are counted, 9 or 3, or the tables and the verdict of the game on the automaton.
 -- Assumes nothing.
 -- ---- the needs
-use Rattle.std.proofs.Common.{ℕ, ◌*◌, ◌<◌, ◌≤◌, List, length, sym, refl, subst, rules}
+use Rattle.std.proofs.Common.{◌*◌, ◌<◌, ◌≤◌, length, sym, refl, subst}
 use Rattle.reader.specs.declared.refusal.Refusal.{Refusal}
 use Rattle.reader.specs.declared.refusal.Refusal.TheVariants.{Nothing}
 use Rattle.automaton.specs.declared.construct.Construction.{Construction}
@@ -17,9 +17,8 @@ use Rattle.plays.specs.inner.Rank.{mode_of}
 use Rattle.plays.proofs.ModeLaws.{same_mode}
 use Rattle.game.specs.inner.Game.{arena_of, Valid}
 use Rattle.game.specs.Tables.{Tables, Verdict}
-use Rattle.game.specs.Rule.{Buffers, buffers, RuleSolved}
+use Rattle.game.specs.Rule.{buffers, RuleSolved}
 use Rattle.game.specs.inner.RuleChecks.{RuleChecked}
-use Rattle.game.proofs.RefusalLaws.{is_refused}
 use Rattle.game.proofs.RuleCallLaws.{refused_early, refused_late, valid, starts, tables_fit, answered}
 use Rattle.game.proofs.rule.solve_rule.Goals as goal
 
@@ -78,7 +77,7 @@ returns-in-Built c =
     ((c.construct-built.new.accepting)) r) (Built ((c.in-Built.n))) = subst ((λ (r : Construction). Constructed c.args.i c.args.o c.args.rule.now c.table_room-room.result c.args.transitions.now c.args.accepting.now ((c.construct-built.new.transitions))
     ((c.construct-built.new.accepting)) r)) c.in-Built.is c.construct-built.ensures in
     let decided : (λ (r : Answer). RuleSolved c.args.mode c.args.i c.args.o c.args.rule.now c.args.condition.now ((buffers c.args.transitions.now c.args.accepting.now c.args.system.now c.args.environment.now))
-    (buffers ((c.construct-built.new.transitions)) ((c.construct-built.new.accepting)) c.decide-round.new.system c.decide-round.new.environment) r) (verdict_of ((c.in-Built.n)) c.decide-round.result) = let G : Arena  =  arena c.args.i c.args.o ((c.in-Built.n)) ((c.construct-built.new.transitions)) ((c.construct-built.new.accepting)) ((c.check_rule-checked.result.mask))  in 
+    (buffers ((c.construct-built.new.transitions)) ((c.construct-built.new.accepting)) c.decide-round.new.system c.decide-round.new.environment) r) (verdict_of ((c.in-Built.n)) c.decide-round.result) = let G : Arena = arena c.args.i c.args.o ((c.in-Built.n)) ((c.construct-built.new.transitions)) ((c.construct-built.new.accepting)) ((c.check_rule-checked.result.mask)) in
     answered c.args.mode c.args.i c.args.o c.args.rule.now c.args.condition.now ((buffers c.args.transitions.now c.args.accepting.now c.args.system.now c.args.environment.now)) ((c.check_rule-checked.result.mask)) (checked) c.table_room-room.result
     c.table_room-room.ensures ((c.construct-built.new.transitions)) ((c.construct-built.new.accepting)) ((c.in-Built.n)) (made) c.decide-round.new.system c.decide-round.new.environment c.decide-round.result
     (subst (λ (m : Mode). Tables m G c.args.system.now c.args.environment.now c.decide-round.new.system c.decide-round.new.environment) (same_mode c.args.mode)
@@ -88,4 +87,3 @@ returns-in-Built c =
     (subst (λ (g : Game). Verdict (mode_of g.fair) (arena_of g ((c.construct-built.new.transitions)) ((c.construct-built.new.accepting))) c.decide-round.new.system c.decide-round.new.environment 0 c.decide-round.result) c.game_of-g.ensures c.decide-round.ensures.verdict)) in
     subst ((λ (r : Answer). RuleSolved c.args.mode c.args.i c.args.o c.args.rule.now c.args.condition.now ((buffers c.args.transitions.now c.args.accepting.now c.args.system.now c.args.environment.now))
     (buffers ((c.construct-built.new.transitions)) ((c.construct-built.new.accepting)) c.decide-round.new.system c.decide-round.new.environment) r)) (sym c.verdict.ensures) (decided)
-

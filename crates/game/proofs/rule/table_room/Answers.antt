@@ -1,6 +1,6 @@
 -- `game::rule::table_room` meets its contract: what it returns is the smaller of the rows of one table and the bytes of the other.
 -- Assumes nothing.
-use Rattle.std.proofs.Common.{◌≡◌, ℕ, ◌*◌, ◌/◌, ◌^◌, ◌<◌, min, ◌||◌, ltb, length, subst, arith, pow_pos, rules}
+use Rattle.std.proofs.Common.{◌≡◌, ℕ, ◌*◌, ◌/◌, ◌^◌, ◌<◌, min, ◌||◌, ltb, length, subst, arith, pow_pos}
 use Rattle.automaton.proofs.AlphabetLaws.{power_is}
 use Rattle.game.proofs.RuleCheckLaws.{room_short}
 use Rattle.game.proofs.rule.table_room.Goals as goal

@@ -1,6 +1,6 @@
 -- `game::search::ranked_below` meets its contract: nothing is below 0, and one less than the rank is compared with one less than the limit.
 -- Assumes nothing.
-use Rattle.std.proofs.Common.{sym, arith, rules}
+use Rattle.std.proofs.Common.{sym, arith}
 use Rattle.game.proofs.LimitLaws.{not_below, one_less}
 use Rattle.game.proofs.search.ranked_below.Goals as goal
 

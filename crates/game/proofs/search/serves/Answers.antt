@@ -1,8 +1,8 @@
 -- `game::search::serves` meets its contract: the test on the entered state, in the order in which the code asks.
 -- Assumes nothing.
-use Rattle.std.proofs.Common.{◌≡◌, ℕ, Bool, sym, ap, ◌∙◌, rules}
+use Rattle.std.proofs.Common.{◌≡◌, Bool, sym, ap, ◌∙◌}
 use mathlib.Core.Bool.{beq}
-use Rattle.plays.specs.Arena.{Arena, holds, next}
+use Rattle.plays.specs.Arena.{holds, next}
 use Rattle.game.specs.inner.Game.{arena_of}
 use Rattle.game.specs.inner.Serving.{ranked_below, safe_below, serving_at}
 use Rattle.game.proofs.ServingLaws.{at_goal, at_condition, at_else}

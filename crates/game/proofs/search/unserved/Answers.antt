@@ -1,12 +1,8 @@
 -- `game::search::unserved` meets its contract. The outer invariant: each input passed has an output that serves it; the measure is the number of inputs left.
 -- The inner: no output tried serves the input; the measure is the number of outputs left. Nothing is known of the witnesses: each is tried.
 -- Assumes nothing.
-use Rattle.std.proofs.Common.{◌≡◌, ℕ, ◌+◌, ◌-◌, ◌*◌, ◌<◌, ◌≤◌, Bool, true, List, sym, ◌∙◌, arith, rules, below_none, below_more}
+use Rattle.std.proofs.Common.{◌+◌, ◌*◌, ◌<◌, sym, ◌∙◌, arith, rules, below_none, below_more}
 use Rattle.automaton.specs.Limits.{number_limit, state_limit}
-use Rattle.game.specs.inner.Game.{arena_of}
-use Rattle.game.specs.inner.Serving.{ranked_below, safe_below, serving}
-use Rattle.game.specs.declared.arena.Game.{Game}
-use Rattle.game.specs.declared.search.Limits.{Limits}
 use Rattle.game.proofs.IndexLaws.{pair_below}
 use Rattle.game.proofs.SearchLaws.{Tried, tried_none, tried_wrapped, tried_more, tried_all}
 use Rattle.game.proofs.search.unserved.Invariants.{served}

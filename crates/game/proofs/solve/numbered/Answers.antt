@@ -1,6 +1,5 @@
 -- `game::solve::numbered` meets its contract: fair, the start's rank; stable, the answer of `numbered_stable`.
 -- Assumes nothing.
-use Rattle.std.proofs.Common.{rules}
 use Rattle.game.proofs.SolutionLaws.{solves_fair}
 use Rattle.game.proofs.solve.numbered.Goals as goal
 

@@ -1,7 +1,6 @@
 -- `game::solve::numbered_stable` meets its contract: the two answers when stable.
 -- Assumes nothing.
-use Rattle.std.proofs.Common.{◌≡◌, length, sym, ◌∙◌, rules}
-use lib.ListN.{length-map}
+use Rattle.std.proofs.Common.{◌≡◌, length, rules}
 use Rattle.automaton.specs.Limits.{state_limit}
 use Rattle.game.proofs.SolutionLaws.{solves_cannot, asks_narrow, solves_stable}
 use Rattle.game.proofs.solve.numbered_stable.Goals as goal

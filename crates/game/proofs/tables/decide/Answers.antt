@@ -1,6 +1,5 @@
 -- `game::tables::decide` meets its contract: both tables are filled by the solver's ranks, and the round number is the solver's.
 -- Assumes nothing.
-use Rattle.std.proofs.Common.{rules}
 use Rattle.game.proofs.StrategyLaws.{filled}
 use Rattle.game.proofs.tables.decide.Goals as goal
 

@@ -1,7 +1,6 @@
 -- `game::tables::environment_byte` meets its contract: no rank, no move; else the first input that the ranks allow.
 -- Assumes nothing.
-use Rattle.std.proofs.Common.{get_or, refl, arith, rules}
-use Rattle.plays.specs.Arena.{Arena}
+use Rattle.std.proofs.Common.{get_or, refl, arith}
 use Rattle.game.specs.inner.Game.{arena_of}
 use Rattle.reader.proofs.BoolLaws.{positive}
 use Rattle.game.proofs.TableLaws.{no_input}

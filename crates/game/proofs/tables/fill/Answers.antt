@@ -1,6 +1,5 @@
 -- `game::tables::fill` meets its contract: the two tables are filled, one after the other.
 -- Assumes nothing.
-use Rattle.std.proofs.Common.{rules}
 use Rattle.game.proofs.tables.fill.Goals as goal
 
 pub fill_system-requires : goal.fill_system-requires

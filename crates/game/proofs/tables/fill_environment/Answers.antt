@@ -1,7 +1,7 @@
 -- `game::tables::fill_environment` meets its contract. Invariant: the bytes below s are the environment's, those from s on are as they were, and the
 -- length is kept. Measure: the states left.
 -- Assumes nothing.
-use Rattle.std.proofs.Common.{◌≡◌, ℕ, ◌-◌, ◌<◌, ◌≤◌, length, get_or, refl, ◌∙◌, arith, length-set, rules, below_none}
+use Rattle.std.proofs.Common.{ℕ, ◌<◌, length, refl, ◌∙◌, arith, length-set, rules, below_none}
 use Rattle.game.specs.inner.Game.{arena_of}
 use Rattle.game.specs.inner.Bytes.{EnvironmentByte}
 use Rattle.game.proofs.TableLaws.{fill_below, fill_rest}

@@ -1,7 +1,7 @@
 -- `game::tables::fill_system` meets its contract. Invariant: the bytes below k are the system's, those from k on are as they were, and the length is
 -- kept. Measure: the bytes left.
 -- Assumes nothing.
-use Rattle.std.proofs.Common.{◌≡◌, ℕ, ◌-◌, ◌*◌, ◌/◌, ◌%◌, ◌<◌, ◌≤◌, length, get_or, refl, ◌∙◌, mod-lt, div-lt_iff_lt-mul, mul-le-mul, arith, length-set, rules, below_none}
+use Rattle.std.proofs.Common.{ℕ, ◌/◌, ◌%◌, ◌<◌, length, refl, ◌∙◌, mod-lt, div-lt_iff_lt-mul, mul-le-mul, arith, length-set, rules, below_none}
 use Rattle.game.specs.inner.Game.{arena_of}
 use Rattle.game.specs.inner.Bytes.{MixedByte}
 use Rattle.game.proofs.TableLaws.{fill_below, fill_rest}

@@ -1,12 +1,9 @@
 -- `game::tables::first_input` meets its contract. Invariant: the ranks allow no input below x. Measure: the inputs left. They allow one, so the
 -- loop does not run to its end.
 -- Assumes nothing.
-use Rattle.std.proofs.Common.{◌≡◌, ℕ, ◌-◌, ◌<◌, ◌≤◌, not, get_or, ap, ◌∙◌, arith, rules, below_none, below_more}
-use Rattle.plays.specs.Arena.{Arena, holds}
+use Rattle.std.proofs.Common.{ℕ, ◌-◌, ◌<◌, ◌≤◌}
 use Rattle.game.specs.inner.Game.{arena_of}
 use Rattle.plays.specs.inner.Rank.{AllowedInput}
-use Rattle.game.specs.inner.Bytes.{limit_of}
-use Rattle.game.proofs.TableLaws.{allowed_every, every_allowed, input_is_byte}
 use Rattle.game.proofs.tables.first_input.Given as goal
 
 abbrev pub invariant-loop-x : goal.invariant-loop-x

@@ -1,6 +1,5 @@
 -- `game::tables::first_output` meets its contract: the system's search ends at its lowest good output, since there is one.
 -- Assumes nothing.
-use Rattle.std.proofs.Common.{rules}
 use Rattle.game.proofs.TableLaws.{first_is_lowest}
 use Rattle.game.proofs.tables.first_output.Goals as goal
 

@@ -1,11 +1,9 @@
 -- `game::tables::first_stop` meets its contract. Invariant: no output before those left ends the player's search. Measure: the
 -- outputs left.
 -- Assumes nothing.
-use Rattle.std.proofs.Common.{◌≡◌, ℕ, ◌+◌, ◌-◌, ◌<◌, ◌≤◌, not, subst, arith, rules, below_more}
-use Rattle.plays.specs.Arena.{Arena}
+use Rattle.std.proofs.Common.{ℕ, ◌-◌, ◌<◌, ◌≤◌, not}
 use Rattle.game.specs.inner.Game.{arena_of}
 use Rattle.game.specs.inner.Bytes.{GoodOutput, Claim}
-use Rattle.game.proofs.TableLaws.{stops_at_goal, stops_at_rank, goes_on}
 use Rattle.game.proofs.tables.first_stop.Given as goal
 
 abbrev pub invariant-loop-left : goal.invariant-loop-left

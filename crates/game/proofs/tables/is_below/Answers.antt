@@ -1,6 +1,5 @@
 -- `game::tables::is_below` meets its contract: no rank, or the comparison with the limit.
 -- Assumes nothing.
-use Rattle.std.proofs.Common.{rules}
 use Rattle.game.proofs.TableLaws.{no_rank, some_rank}
 use Rattle.game.proofs.tables.is_below.Goals as goal
 

@@ -1,6 +1,5 @@
 -- `game::tables::limit` meets its contract: the three cases.
 -- Assumes nothing.
-use Rattle.std.proofs.Common.{rules}
 use Rattle.game.proofs.tables.limit.Goals as goal
 
 pub returns-then-judged : goal.returns-then-judged

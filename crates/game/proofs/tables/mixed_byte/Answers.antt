@@ -1,6 +1,5 @@
 -- `game::tables::mixed_byte` meets its contract: the byte by the far ranks where the state has no near one, else by the near ones.
 -- Assumes nothing.
-use Rattle.std.proofs.Common.{rules}
 use Rattle.game.proofs.TableLaws.{near_byte, far_byte}
 use Rattle.game.proofs.tables.mixed_byte.Goals as goal
 

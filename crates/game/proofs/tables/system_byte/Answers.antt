@@ -1,7 +1,7 @@
 -- `game::tables::system_byte` meets its contract: no rank, no move; else the lowest output below the limit, of which the rank says that there is one.
 -- Assumes nothing.
-use Rattle.std.proofs.Common.{◌<◌, get_or, rules}
-use Rattle.plays.specs.Arena.{Arena, holds}
+use Rattle.std.proofs.Common.{◌<◌, get_or}
+use Rattle.plays.specs.Arena.{holds}
 use Rattle.game.specs.inner.Game.{arena_of}
 use Rattle.reader.proofs.BoolLaws.{positive}
 use Rattle.game.proofs.TableLaws.{some_output, output_is_byte, no_output}

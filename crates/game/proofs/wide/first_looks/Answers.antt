@@ -1,6 +1,6 @@
 -- `game::wide::first_looks` meets its contract. The invariant: the passes are those of the states below s. The measure is the number of states left.
 -- Assumes nothing.
-use Rattle.std.proofs.Common.{◌≡◌, ℕ, ◌+◌, ◌-◌, ◌<◌, ◌≤◌, Bool, List, length, replicate, sym, refl, ◌∙◌, subst, ⊎_elim, arith, length-set, rules}
+use Rattle.std.proofs.Common.{◌≡◌, ℕ, ◌+◌, ◌<◌, Bool, List, length, replicate, sym, refl, ◌∙◌, subst, arith, length-set, rules}
 use Rattle.automaton.specs.Limits.{state_limit}
 use Rattle.plays.specs.Arena.{Arena}
 use Rattle.game.specs.inner.Game.{arena_of}

@@ -1,12 +1,9 @@
 -- `game::wide::first_looks` meets its contract. The invariant: the passes are those of the states below s. The measure is the number of states left.
 -- Assumes nothing.
-use Rattle.std.proofs.Common.{◌≡◌, ℕ, ◌+◌, ◌-◌, ◌<◌, ◌≤◌, Bool, List, length, replicate, sym, refl, ◌∙◌, subst, ⊎_elim, arith, length-set, rules}
+use Rattle.std.proofs.Common.{◌≡◌, ◌-◌, ◌≤◌, length}
 use Rattle.automaton.specs.Limits.{state_limit}
-use Rattle.plays.specs.Arena.{Arena}
 use Rattle.game.specs.inner.Game.{arena_of}
-use Rattle.game.specs.inner.Wide.{Hopeful, Looks}
-use Rattle.game.proofs.LimitLaws.{zeros}
-use Rattle.game.proofs.WidenLaws.{no_looks, looks_stays, looks_more, looks_over}
+use Rattle.game.specs.inner.Wide.{Looks}
 use Rattle.game.proofs.wide.first_looks.Given as goal
 
 abbrev pub invariant-loop-s : goal.invariant-loop-s

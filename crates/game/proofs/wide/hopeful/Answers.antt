@@ -1,7 +1,7 @@
 -- `game::wide::hopeful` meets its contract: a state that the system does not win, or that has a need, is left, and the first unserved input decides on the
 -- others.
 -- Assumes nothing.
-use Rattle.std.proofs.Common.{get_or, rules}
+use Rattle.std.proofs.Common.{get_or}
 use Rattle.reader.proofs.BoolLaws.{positive}
 use Rattle.game.proofs.WidenLaws.{hopeful_lost, hopeful_has, hopeful_by}
 use Rattle.game.proofs.wide.hopeful.Goals as goal

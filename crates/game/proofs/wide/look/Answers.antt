@@ -1,6 +1,6 @@
 -- `game::wide::look` meets its contract: a state that is not due is left, and of one that is due the test on its steps decides.
 -- Assumes nothing.
-use Rattle.std.proofs.Common.{◌+◌, ◌<◌, length, ◌∙◌, arith, length-set, rules}
+use Rattle.std.proofs.Common.{◌+◌, ◌<◌, length, ◌∙◌, arith, length-set}
 use Rattle.game.proofs.WidenLaws.{look_off, look_waits, look_gains}
 use Rattle.game.proofs.wide.look.Goals as goal
 

@@ -1,6 +1,5 @@
 -- `game::wide::opened` meets its contract: the first unserved input decides.
 -- Assumes nothing.
-use Rattle.std.proofs.Common.{rules}
 use Rattle.game.proofs.WidenLaws.{opens_by}
 use Rattle.game.proofs.wide.opened.Goals as goal
 

@@ -1,7 +1,6 @@
 -- `game::wide::widen` meets its contract. The invariant: the pass has been made over the states below s. The measure is the number of states left.
 -- Assumes nothing.
-use Rattle.std.proofs.Common.{◌≡◌, ◌+◌, ◌-◌, ◌≤◌, Bool, true, ◌⊎◌, length, sym, subst, ⊎_elim, arith, rules}
-use Rattle.automaton.specs.Limits.{state_limit}
+use Rattle.std.proofs.Common.{◌+◌, Bool, true, ◌⊎◌, sym, subst, arith, rules}
 use Rattle.plays.specs.Arena.{Arena}
 use Rattle.game.specs.inner.Game.{arena_of}
 use Rattle.game.specs.inner.Wide.{Widened}

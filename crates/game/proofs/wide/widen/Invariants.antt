@@ -1,11 +1,9 @@
 -- `game::wide::widen` meets its contract. The invariant: the pass has been made over the states below s. The measure is the number of states left.
 -- Assumes nothing.
-use Rattle.std.proofs.Common.{◌≡◌, ◌+◌, ◌-◌, ◌≤◌, Bool, true, ◌⊎◌, length, sym, subst, ⊎_elim, arith, rules}
+use Rattle.std.proofs.Common.{◌≡◌, ◌-◌, ◌≤◌, length}
 use Rattle.automaton.specs.Limits.{state_limit}
-use Rattle.plays.specs.Arena.{Arena}
 use Rattle.game.specs.inner.Game.{arena_of}
 use Rattle.game.specs.inner.Wide.{Widened}
-use Rattle.game.proofs.WidenLaws.{widen_starts, widen_more, widen_over}
 use Rattle.game.proofs.wide.widen.Given as goal
 
 abbrev pub invariant-loop-s : goal.invariant-loop-s

@@ -1,11 +1,7 @@
 -- `game::wide::widened` meets its contract. The invariant: the needs are those of the passes before p, which is at most n + 1 more than the number of states
 -- with one. The measure is the number of passes that there can still be.
 -- Assumes nothing.
-use Rattle.std.proofs.Common.{◌≡◌, ◌+◌, ◌-◌, ◌≤◌, length, refl, ⊎_elim, arith}
-use Rattle.automaton.specs.Limits.{state_limit}
-use Rattle.game.specs.inner.Game.{arena_of}
-use Rattle.game.specs.inner.Rounds.{Extends}
-use Rattle.game.specs.inner.Wide.{Widening}
+use Rattle.std.proofs.Common.{◌+◌, ◌≤◌, refl, ⊎_elim, arith}
 use Rattle.game.proofs.CountLaws.{ranked_count, count_bound, count_more}
 use Rattle.game.proofs.WidenLaws.{widens_first, widens_on, widens_more, widens_end}
 use Rattle.game.proofs.wide.widened.Goals as goal

@@ -1,13 +1,9 @@
 -- `listing::input::begins_with` meets its contract. The invariant: the test on what is left of both is the test on the whole. The measure is what is
 -- left of the word.
 -- Assumes nothing.
-use Prim.Native.Nat.{◌+◌, ◌-◌, ◌≤◌}
-use mathlib.Core.Path.{◌≡◌, sym, ◌∙◌}
+use mathlib.Core.Path.{sym, ◌∙◌}
 use native.Mathlib.Omega.{arith}
-use lib.ListN.{length, drop}
-use Rattle.listing.specs.inner.Scan.{begins_with}
 use Rattle.listing.proofs.ScanLaws.{begins_start, begins_short, begins_other, begins_more, begins_end}
-use borrow.Author.Rules.{rules}
 use Rattle.listing.proofs.input.begins_with.Goals as goal
 
 pub loop-k-init : goal.loop-k-init

@@ -2,12 +2,9 @@
 -- left of the word.
 -- Assumes nothing.
 use Prim.Native.Nat.{◌+◌, ◌-◌, ◌≤◌}
-use mathlib.Core.Path.{◌≡◌, sym, ◌∙◌}
-use native.Mathlib.Omega.{arith}
+use mathlib.Core.Path.{◌≡◌}
 use lib.ListN.{length, drop}
 use Rattle.listing.specs.inner.Scan.{begins_with}
-use Rattle.listing.proofs.ScanLaws.{begins_start, begins_short, begins_other, begins_more, begins_end}
-use borrow.Author.Rules.{rules}
 use Rattle.listing.proofs.input.begins_with.Given as goal
 
 abbrev pub invariant-loop-k : goal.invariant-loop-k

@@ -2,7 +2,6 @@
 -- Assumes nothing.
 use mathlib.Core.Path.{refl, sym, ◌∙◌}
 use Rattle.listing.specs.inner.Scan.{condition_start}
-use borrow.Author.Rules.{rules}
 use Rattle.listing.proofs.input.condition_start.Goals as goal
 
 pub returns-then-begins_with : goal.returns-then-begins_with

@@ -1,7 +1,6 @@
 -- `listing::input::digit_at` meets its contract.
 -- Assumes nothing.
 use native.Mathlib.Omega.{arith}
-use borrow.Author.Rules.{rules}
 use Rattle.listing.proofs.input.digit_at.Goals as goal
 
 pub overflow_cast-result : goal.overflow_cast-result

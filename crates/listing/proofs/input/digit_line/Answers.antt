@@ -5,7 +5,6 @@ use mathlib.Core.Path.{ap, sym, ◌∙◌}
 use native.Mathlib.Omega.{arith}
 use Rattle.reader.proofs.BoolLaws.{not_true→, not_false→}
 use Rattle.listing.proofs.ScanLaws.{digits_short, digits_first, digits_blank, digits_second, digits_last}
-use borrow.Author.Rules.{rules}
 use Rattle.listing.proofs.input.digit_line.Goals as goal
 
 pub returns-then-input-lt4 : goal.returns-then-input-lt4

@@ -5,9 +5,8 @@ use mathlib.Core.Path.{◌≡◌, sym, ap, subst, ◌∙◌}
 use mathlib.Core.Bool.{not, true}
 use native.Mathlib.Omega.{arith}
 use lib.ListN.{length}
-use borrow.Author.Rules.{rules}
 use Rattle.reader.proofs.BoolLaws.{not_true→, not_false→}
-use Rattle.listing.specs.inner.Scan.{digit_line, has_mode, has_texts, condition_start}
+use Rattle.listing.specs.inner.Scan.{digit_line, has_mode, has_texts}
 use Rattle.listing.proofs.ScanLaws.{request_over, request_first, request_second, request_last}
 use Rattle.listing.proofs.RequestLaws.{digits_are, start_within}
 use Rattle.listing.proofs.input.is_request.Goals as goal

@@ -1,12 +1,9 @@
 -- `listing::input::line_end` meets its contract. The invariant: the line ends where the line from k on does. The measure is what is left of the text.
 -- Assumes nothing.
 use Prim.Native.Nat.{◌-◌, ◌≤◌}
-use mathlib.Core.Path.{◌≡◌, refl, sym, ◌∙◌}
-use native.Mathlib.Omega.{arith}
+use mathlib.Core.Path.{◌≡◌}
 use lib.ListN.{length}
 use Rattle.listing.specs.inner.Scan.{line_end}
-use Rattle.listing.proofs.ScanLaws.{end_here, end_later, end_none}
-use borrow.Author.Rules.{rules}
 use Rattle.listing.proofs.input.line_end.Given as goal
 
 abbrev pub invariant-loop-k : goal.invariant-loop-k

@@ -1,7 +1,6 @@
 -- `listing::input::mode_line` meets its contract: one word, then the other.
 -- Assumes nothing.
 use mathlib.Core.Path.{refl, sym, ◌∙◌}
-use borrow.Author.Rules.{rules}
 use Rattle.listing.proofs.input.mode_line.Goals as goal
 
 pub returns-then-begins_with : goal.returns-then-begins_with

@@ -1,7 +1,6 @@
 -- `listing::input::mode_of` meets its contract: the word decides.
 -- Assumes nothing.
 use mathlib.Core.Path.{sym, ap, ◌∙◌}
-use borrow.Author.Rules.{rules}
 use Rattle.plays.specs.inner.Rank.{mode_of}
 use Rattle.listing.proofs.input.mode_of.Goals as goal
 

@@ -3,7 +3,6 @@
 use Prim.Native.Nat.{◌+◌}
 use native.Mathlib.Omega.{arith}
 use Rattle.listing.proofs.ScanLaws.{texts_short, texts_last, end_within}
-use borrow.Author.Rules.{rules}
 use Rattle.listing.proofs.input.text_lines.Goals as goal
 
 pub returns-then-end-input : goal.returns-then-end-input

@@ -4,7 +4,6 @@ use Prim.Native.Nat.{ℕ, ◌≤◌, ◌<◌}
 use mathlib.Core.Path.{sym, subst}
 use native.Mathlib.Omega.{arith}
 use lib.ListN.{length}
-use borrow.Author.Rules.{rules}
 use Rattle.game.specs.Rule.{buffers}
 use Rattle.listing.proofs.RequestLaws.{Digits, request_size, start_fits, ended, rule_ended}
 use Rattle.listing.proofs.PromiseLaws.{asked_parts}

@@ -1,7 +1,6 @@
 -- `listing::list::list` meets its contract: the four arrays that it lends are zeros.
 -- Assumes nothing.
 use mathlib.Core.Path.{refl}
-use borrow.Author.Rules.{rules}
 use Rattle.listing.specs.Promise.{lent}
 use Rattle.listing.proofs.list.list.Goals as goal
 

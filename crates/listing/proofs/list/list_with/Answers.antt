@@ -3,7 +3,6 @@
 use mathlib.Core.Path.{ap, ◌≡◌, sym, ◌∙◌}
 use mathlib.Core.Bool.{not, true}
 use native.Mathlib.Omega.{arith}
-use borrow.Author.Rules.{rules}
 use Rattle.reader.proofs.BoolLaws.{not_true→, not_false→}
 use Rattle.game.specs.Rule.{buffers}
 use Rattle.listing.specs.inner.Scan.{is_request}

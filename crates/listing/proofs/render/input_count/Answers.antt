@@ -5,7 +5,6 @@ use native.Mathlib.Nat.{one-mul, mod-eq_of_lt}
 use lib.Pow.{pow_mono}
 use mathlib.Core.Path.{◌≡◌}
 use native.Mathlib.Omega.{arith}
-use borrow.Author.Rules.{rules}
 use Rattle.listing.specs.inner.Rendering.{row_limit}
 use Rattle.listing.proofs.render.input_count.Goals as goal
 

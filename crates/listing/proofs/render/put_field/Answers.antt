@@ -1,7 +1,6 @@
 -- `listing::render::put_field` meets its contract: the blank, then the number.
 -- Assumes nothing.
 use Rattle.listing.proofs.WritingLaws.{joined}
-use borrow.Author.Rules.{rules}
 use Rattle.listing.proofs.render.put_field.Goals as goal
 
 pub returns : goal.returns

@@ -1,15 +1,10 @@
 -- `listing::render::put_fields` meets its contract. The invariant: to write what is left of the row from here is to write the whole row. The measure is
 -- what is left of it.
 -- Assumes nothing.
-use Prim.Native.Nat.{◌+◌, ◌-◌, ◌≤◌}
-use mathlib.Core.Path.{◌≡◌, refl, ◌∙◌}
+use mathlib.Core.Path.{refl, ◌∙◌}
 use native.Mathlib.Omega.{arith}
-use lib.ListN.{length}
-use Rattle.listing.specs.Listing.{fields}
-use Rattle.listing.specs.inner.Writing.{Remains}
 use Rattle.listing.proofs.WritingLaws.{writes_length}
 use Rattle.listing.proofs.RenderingLaws.{fields_start, fields_more, fields_end}
-use borrow.Author.Rules.{rules}
 use Rattle.listing.proofs.render.put_fields.Goals as goal
 
 pub loop-k-init : goal.loop-k-init

@@ -2,14 +2,10 @@
 -- what is left of it.
 -- Assumes nothing.
 use Prim.Native.Nat.{◌+◌, ◌-◌, ◌≤◌}
-use mathlib.Core.Path.{◌≡◌, refl, ◌∙◌}
-use native.Mathlib.Omega.{arith}
+use mathlib.Core.Path.{◌≡◌}
 use lib.ListN.{length}
 use Rattle.listing.specs.Listing.{fields}
 use Rattle.listing.specs.inner.Writing.{Remains}
-use Rattle.listing.proofs.WritingLaws.{writes_length}
-use Rattle.listing.proofs.RenderingLaws.{fields_start, fields_more, fields_end}
-use borrow.Author.Rules.{rules}
 use Rattle.listing.proofs.render.put_fields.Given as goal
 
 abbrev pub invariant-loop-k : goal.invariant-loop-k

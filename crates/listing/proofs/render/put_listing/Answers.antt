@@ -5,7 +5,6 @@ use mathlib.Core.Path.{subst}
 use Rattle.game.specs.declared.answer.Answer.{Answer}
 use Rattle.game.specs.Answer.{answer_states}
 use Rattle.listing.proofs.RenderingLaws.{can_listed, cannot_listed, refused_listed}
-use borrow.Author.Rules.{rules}
 use Rattle.automaton.specs.Limits.{state_limit}
 use Rattle.listing.proofs.render.put_listing.Goals as goal
 

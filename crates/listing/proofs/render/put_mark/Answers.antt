@@ -2,7 +2,6 @@
 -- Assumes nothing.
 use mathlib.Core.Path.{sym, ◌∙◌}
 use Rattle.listing.proofs.RenderingLaws.{mark_plain, mark_goal}
-use borrow.Author.Rules.{rules}
 use Rattle.listing.proofs.render.put_mark.Goals as goal
 
 pub returns-then-byte_at-eq0 : goal.returns-then-byte_at-eq0

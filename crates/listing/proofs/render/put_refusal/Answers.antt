@@ -1,7 +1,6 @@
 -- `listing::render::put_refusal` meets its contract: the pieces of the line, one after the other.
 -- Assumes nothing.
 use Rattle.listing.proofs.RenderingLaws.{refusal_written}
-use borrow.Author.Rules.{rules}
 use Rattle.listing.proofs.render.put_refusal.Goals as goal
 
 pub returns : goal.returns

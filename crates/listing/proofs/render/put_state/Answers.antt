@@ -1,7 +1,6 @@
 -- `listing::render::put_state` meets its contract: the pieces of the line, one after the other.
 -- Assumes nothing.
 use Rattle.listing.proofs.RenderingLaws.{line_written}
-use borrow.Author.Rules.{rules}
 use Rattle.listing.proofs.render.put_state.Goals as goal
 
 pub returns : goal.returns

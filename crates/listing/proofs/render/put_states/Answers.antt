@@ -1,15 +1,10 @@
 -- `listing::render::put_states` meets its contract. The invariant: to write the lines of the states from s on from here is to write all of them. The
 -- measure is the number of states that are left.
 -- Assumes nothing.
-use Prim.Native.Nat.{◌-◌, ◌≤◌}
-use mathlib.Core.Path.{◌≡◌, refl, ◌∙◌}
+use mathlib.Core.Path.{refl, ◌∙◌}
 use native.Mathlib.Omega.{arith}
-use lib.ListN.{length}
-use Rattle.listing.specs.Listing.{state_lines}
-use Rattle.listing.specs.inner.Writing.{Remains}
 use Rattle.listing.proofs.WritingLaws.{writes_length}
 use Rattle.listing.proofs.RenderingLaws.{states_start, states_more, states_end}
-use borrow.Author.Rules.{rules}
 use Rattle.listing.proofs.render.put_states.Goals as goal
 
 pub loop-s-init : goal.loop-s-init

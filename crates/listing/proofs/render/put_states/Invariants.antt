@@ -2,14 +2,10 @@
 -- measure is the number of states that are left.
 -- Assumes nothing.
 use Prim.Native.Nat.{◌-◌, ◌≤◌}
-use mathlib.Core.Path.{◌≡◌, refl, ◌∙◌}
-use native.Mathlib.Omega.{arith}
+use mathlib.Core.Path.{◌≡◌}
 use lib.ListN.{length}
 use Rattle.listing.specs.Listing.{state_lines}
 use Rattle.listing.specs.inner.Writing.{Remains}
-use Rattle.listing.proofs.WritingLaws.{writes_length}
-use Rattle.listing.proofs.RenderingLaws.{states_start, states_more, states_end}
-use borrow.Author.Rules.{rules}
 use Rattle.listing.proofs.render.put_states.Given as goal
 
 abbrev pub invariant-loop-s : goal.invariant-loop-s

@@ -1,7 +1,6 @@
 -- `listing::render::put_verdict` meets its contract: the pieces of the text, one after the other.
 -- Assumes nothing.
 use Rattle.listing.proofs.RenderingLaws.{verdict_written}
-use borrow.Author.Rules.{rules}
 use Rattle.listing.proofs.render.put_verdict.Goals as goal
 
 pub returns : goal.returns

@@ -4,7 +4,6 @@ use mathlib.Core.Path.{sym, ◌∙◌}
 use native.Mathlib.Omega.{arith}
 use Rattle.listing.proofs.WritingLaws.{joined}
 use Rattle.listing.proofs.RenderingLaws.{row_within, winner_system, winner_environment}
-use borrow.Author.Rules.{rules}
 use Rattle.listing.proofs.render.put_winner.Goals as goal
 
 pub overflow_mul-s : goal.overflow_mul-s

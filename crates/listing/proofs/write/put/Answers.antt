@@ -1,7 +1,6 @@
 -- `listing::write::put` meets its contract: the byte is stored where there is room.
 -- Assumes nothing.
 use Rattle.listing.proofs.WritingLaws.{writes_one, writes_none}
-use borrow.Author.Rules.{rules}
 use Rattle.listing.proofs.write.put.Goals as goal
 
 pub returns-then-at-out : goal.returns-then-at-out

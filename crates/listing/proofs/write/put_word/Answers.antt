@@ -1,13 +1,9 @@
 -- `listing::write::put_word` meets its contract. The invariant: to write what is left of the word from here is to write the whole word. The measure is
 -- what is left of it.
 -- Assumes nothing.
-use Prim.Native.Nat.{◌-◌, ◌≤◌}
-use mathlib.Core.Path.{◌≡◌, refl, ◌∙◌}
+use mathlib.Core.Path.{refl, ◌∙◌}
 use native.Mathlib.Omega.{arith}
-use lib.ListN.{length, drop}
-use Rattle.listing.specs.inner.Writing.{Remains}
 use Rattle.listing.proofs.WritingLaws.{outset, writes_length, word_more, word_end}
-use borrow.Author.Rules.{rules}
 use Rattle.listing.proofs.write.put_word.Goals as goal
 
 pub loop-k-init : goal.loop-k-init

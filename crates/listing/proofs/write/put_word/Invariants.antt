@@ -2,12 +2,9 @@
 -- what is left of it.
 -- Assumes nothing.
 use Prim.Native.Nat.{◌-◌, ◌≤◌}
-use mathlib.Core.Path.{◌≡◌, refl, ◌∙◌}
-use native.Mathlib.Omega.{arith}
+use mathlib.Core.Path.{◌≡◌}
 use lib.ListN.{length, drop}
 use Rattle.listing.specs.inner.Writing.{Remains}
-use Rattle.listing.proofs.WritingLaws.{outset, writes_length, word_more, word_end}
-use borrow.Author.Rules.{rules}
 use Rattle.listing.proofs.write.put_word.Given as goal
 
 abbrev pub invariant-loop-k : goal.invariant-loop-k

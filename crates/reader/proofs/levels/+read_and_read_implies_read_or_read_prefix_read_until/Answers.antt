@@ -1,10 +1,9 @@
 -- The five reading functions meet their contracts, in one proof: they call each other.
 -- The measure of a call is six times the bytes left, and the level on top: it falls at every mark that is passed, and from a level to the one below.
 -- The four infix levels are answered alike by InfixLaws, over the level, and what prefix marks bind by PrefixLaws. Assumes nothing.
-use Prim.Native.Nat.{ℕ, ◌<◌}
 use mathlib.Core.Path.{sym, ◌∙◌}
 use native.Mathlib.Omega.{arith}
-use Rattle.reader.proofs.InfixLaws.{measure, lower_ready, alone, over_ready, right_ready, put_ready, joined}
+use Rattle.reader.proofs.InfixLaws.{lower_ready, alone, over_ready, right_ready, put_ready, joined}
 use Rattle.reader.proofs.PrefixLaws.{starts, held_ready, close_ready, wrapped, bound_ready, prefix_ready, prefixed, operand_ready, single}
 use Rattle.reader.proofs.levels.+read_and_read_implies_read_or_read_prefix_read_until.Goals as goal
 
@@ -220,4 +219,3 @@ read_until-shape_of-out t c =
 pub read_until-returns : goal.read_until-returns
 read_until-returns t c =
     alone 0 c.read_prefix-q.ensures c.level_at.ensures c.if-level_at-eq1.false
-

@@ -1,10 +1,8 @@
 -- `reader::marks::allowed` meets its contract: at each return the tests before it, put into `allowed_by`, leave what is returned. Assumes nothing.
 use mathlib.Core.Path.{◌≡◌, sym, ◌∙◌}
-use mathlib.Core.Logic.{⊎_elim}
 use mathlib.Core.Bool.{Bool, true, false, ◌&&◌, cond}
-use Prim.Native.Nat.{ℕ, ◌+◌, ◌-◌}
+use Prim.Native.Nat.{ℕ, ◌-◌}
 use lib.Dec.{leb, ltb}
-use borrow.Author.Rules.{rules}
 use borrow.Author.Tests.{le-leb, lt-leb}
 use Rattle.reader.specs.Marks.{allowed_by, is_temporal_mark}
 use Rattle.reader.proofs.marks.allowed.Goals as goal
@@ -23,7 +21,6 @@ returns-then-b-le100 c =
       le-leb _ _ c.if-b-ge97.true,
       le-leb _ _ c.if-b-le100.true,
     )
-
 
 -- what is known of a byte that is no temporal mark and no input's name
 past_inputs : (i o b : ℕ) (t : Bool) → is_temporal_mark b ≡ false → (leb 97 b && leb b 100) ≡ false

@@ -1,5 +1,4 @@
 -- `reader::reading::check` meets its contract: each answer follows from the length, from what the pass came to and from the two counts. Assumes nothing.
-use borrow.Author.Rules.{rules}
 use mathlib.Core.Path.{◌≡◌, sym, subst, ◌∙◌}
 use mathlib.Core.Bool.{true, false}
 use Prim.Native.Nat.{ℕ}

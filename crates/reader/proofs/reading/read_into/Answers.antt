@@ -1,5 +1,4 @@
 -- `reader::reading::read_into` meets its contract: the answer is that of `check`, and where it is good the reading functions write the nodes. Assumes nothing.
-use borrow.Author.Rules.{rules}
 use mathlib.Core.Path.{refl}
 use Rattle.reader.specs.inner.Nodes.{Written}
 use Rattle.reader.proofs.ReadingLaws.{same_reading, ready, written}

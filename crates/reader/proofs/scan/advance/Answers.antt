@@ -1,6 +1,5 @@
 -- `reader::scan::advance` meets its contract: a blank changes nothing, a byte out of reach is of the kind `Other`, and every other byte is a mark.
 -- Assumes nothing.
-use borrow.Author.Rules.{rules}
 use mathlib.Core.Path.{sym, ◌∙◌}
 use borrow.Author.Tests.{eq-eqb, ne_eqb}
 use Rattle.reader.specs.Marks.{kind_in}

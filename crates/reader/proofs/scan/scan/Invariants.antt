@@ -1,15 +1,11 @@
 -- `reader::scan::scan` meets its contract. The invariant: the pass over the bytes that are left comes to what the pass over the text comes to,
 -- and no more parentheses are open than bytes are read. The measure is the number of bytes left. Assumes nothing.
-use borrow.Author.Rules.{rules}
-use mathlib.Core.Path.{◌≡◌, sym, ap, ◌∙◌}
-use mathlib.Core.Bool.{Bool, true}
-use Prim.Native.Nat.{◌+◌, ◌-◌, ◌≤◌}
-use native.Mathlib.Omega.{arith}
-use lib.ListN.{length, get_or, drop}
-use Rattle.reader.specs.declared.scan.Step.TheVariants.{Next}
+use mathlib.Core.Path.{◌≡◌}
+use mathlib.Core.Bool.{true}
+use Prim.Native.Nat.{◌-◌, ◌≤◌}
+use lib.ListN.{length, drop}
 use Rattle.reader.specs.Marks.{kind_in}
-use Rattle.reader.specs.inner.Scan.{step_of, scan_of, end_of}
-use Rattle.reader.proofs.ScanLaws.{step_depth, scan_end, scan_goes, scan_stops, end_open}
+use Rattle.reader.specs.inner.Scan.{scan_of}
 use Rattle.reader.proofs.scan.scan.Given as goal
 
 abbrev pub invariant-loop-at : goal.invariant-loop-at

@@ -1,12 +1,12 @@
 -- `game::follow::Position::follow` meets its contract: the first two tests, and then the step on the arena of these numbers.
 -- Assumes nothing.
-use Rattle.std.proofs.Common.{◌≡◌, false, sym, ◌∙◌, subst, rules}
+use Rattle.std.proofs.Common.{◌≡◌, false, sym, ◌∙◌, subst}
 use Rattle.automaton.specs.Alphabet.{bad_alphabet}
 use Rattle.reader.specs.declared.refusal.Refusal.TheVariants.{Alphabet, GivenCount}
 use Rattle.game.specs.declared.arena.Sizes.{Sizes}
 use Rattle.game.specs.declared.follow.Followed.{Followed}
 use Rattle.game.specs.declared.follow.Followed.TheVariants.{Refused}
-use Rattle.plays.specs.Arena.{Arena, arena}
+use Rattle.plays.specs.Arena.{arena}
 use Rattle.game.specs.inner.Game.{arena_at}
 use Rattle.game.specs.inner.Checks.{InRange}
 use Rattle.game.specs.Given.{bad_count}

@@ -1,7 +1,7 @@
 -- `game::follow::Position::moved_by` meets its contract: the transition's index is below the buffer's length, and so is the state to which it leads.
 -- Assumes nothing.
-use Rattle.std.proofs.Common.{ℕ, ◌<◌, sym, subst, arith, rules}
-use Rattle.plays.specs.Arena.{Arena, next}
+use Rattle.std.proofs.Common.{ℕ, ◌<◌, sym, subst, arith}
+use Rattle.plays.specs.Arena.{next}
 use Rattle.game.specs.inner.Game.{arena_at}
 use Rattle.game.proofs.IndexLaws.{At, at_facts}
 use Rattle.game.proofs.CheckLaws.{transitions_long, accepting_long}

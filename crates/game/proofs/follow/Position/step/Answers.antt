@@ -1,8 +1,7 @@
 -- `game::follow::Position::step` meets its contract: each return by the test that decides; the row is below the table's length.
 -- Assumes nothing.
-use Rattle.std.proofs.Common.{◌≡◌, ℕ, ◌*◌, ◌<◌, ◌≤◌, false, length, sym, ◌∙◌, subst, mul-le-mul, arith, rules, ltb-false}
+use Rattle.std.proofs.Common.{◌≡◌, ℕ, ◌*◌, ◌<◌, ◌≤◌, false, length, sym, ◌∙◌, subst, mul-le-mul, arith, ltb-false}
 use Rattle.automaton.specs.Limits.{state_limit}
-use Rattle.plays.specs.Arena.{Arena}
 use Rattle.game.specs.inner.Game.{arena_at}
 use Rattle.game.specs.Given.{short_read, short_strategy}
 use Rattle.game.proofs.IndexLaws.{row_below}

@@ -27,7 +27,7 @@ pub returns-then-inputs-x : goal.returns-then-inputs-x
 returns-then-inputs-x c =
     input_refused ((arena_at c.args.sizes c.args.transitions.now c.args.accepting.now 0)) c.args.system.now c.args.self c.args.x
     (sym c.short_read.ensures ∙ c.if-short_read.false)
-    (sym c.short_strategy.ensures ∙ c.if-short_strategy.false) c.if-states-s.false c.if-inputs-x.true
+    (sym c.short_strategy.ensures ∙ c.if-short_strategy.false) (omega arith) c.if-inputs-x.true
 
 pub overflow_mul-row : goal.overflow_mul-row
 overflow_mul-row c =

@@ -112,6 +112,7 @@ pub(crate) fn present_vector(
 }
 
 // An operator's bit of the end valuation: 1 for N, G and R.
+#[tactic(auto, unfolding(crate::specs::inner::Coordinates::end_of))]
 fn end_of(kind: usize) -> u64
     ensures { result ≡ one (end_of kind) }
 {

@@ -24,40 +24,40 @@ returns-then-too_long c =
 pub overflow_add-i : goal.overflow_add-i
 overflow_add-i c =
     let fits : bad_alphabet c.args.i c.args.o ≡ false = sym c.bad_alphabet.ensures ∙ c.if-bad_alphabet.false in
-    omega (arith, inputs_fit c.args.i c.args.o (fits), outputs_fit c.args.i c.args.o (fits))
+    omega (arith, inputs_fit c.args.i c.args.o fits, outputs_fit c.args.i c.args.o fits)
 
 pub overflow_cast-i : goal.overflow_cast-i
 overflow_cast-i c =
     let fits : bad_alphabet c.args.i c.args.o ≡ false = sym c.bad_alphabet.ensures ∙ c.if-bad_alphabet.false in
-    omega (arith, inputs_fit c.args.i c.args.o (fits))
+    omega (arith, inputs_fit c.args.i c.args.o fits)
 
 pub overflow_cast-o : goal.overflow_cast-o
 overflow_cast-o c =
     let fits : bad_alphabet c.args.i c.args.o ≡ false = sym c.bad_alphabet.ensures ∙ c.if-bad_alphabet.false in
-    omega (arith, outputs_fit c.args.i c.args.o (fits))
+    omega (arith, outputs_fit c.args.i c.args.o fits)
 
 pub returns-in_default : goal.returns-in_default
 returns-in_default c =
     let fits : bad_alphabet c.args.i c.args.o ≡ false = sym c.bad_alphabet.ensures ∙ c.if-bad_alphabet.false in
     let short : too_long c.args.text.now ≡ false = sym c.too_long.ensures ∙ c.if-too_long.false in
-    by_reading c.args.i c.args.o c.args.text.now c.args.room c.args.transitions.now c.args.accepting.now (fits) (short)
+    by_reading c.args.i c.args.o c.args.text.now c.args.room c.args.transitions.now c.args.accepting.now fits short
     c.read-reading.result c.read-reading.ensures.reading c.in_default.not-Good c.text_refusal.result c.text_refusal.ensures
 
 pub build_nodes-requires : goal.build_nodes-requires
 build_nodes-requires c =
     let fits : bad_alphabet c.args.i c.args.o ≡ false = sym c.bad_alphabet.ensures ∙ c.if-bad_alphabet.false in
-    let letters-of : LettersFit c.args.i c.args.o c.power-letters.result = letters_fit c.args.i c.args.o c.power-letters.result (fits) c.power-letters.ensures in
-    let represented : Represented c.args.i c.args.o true c.args.text.now ((c.read-reading.new.nodes)) ((c.in-Good.count)) = read_represents c.args.i c.args.o true c.args.text.now ((c.read-reading.new.nodes)) c.read-reading.result ((c.in-Good.count)) c.in-Good.is c.read-reading.ensures.reading c.read-reading.ensures.nodes in
+    let letters-of : LettersFit c.args.i c.args.o c.power-letters.result = letters_fit c.args.i c.args.o c.power-letters.result fits c.power-letters.ensures in
+    let represented : Represented c.args.i c.args.o true c.args.text.now c.read-reading.new.nodes c.in-Good.count = read_represents c.args.i c.args.o true c.args.text.now c.read-reading.new.nodes c.read-reading.result c.in-Good.count c.in-Good.is c.read-reading.ensures.reading c.read-reading.ensures.nodes in
     let f = letters-of in
     let v = represented in
     record { represents = (v.formula, v.represents); letters_nonzero = (f.some, f.few) }
 
 pub returns : goal.returns
 returns c =
-    let represented : Represented c.args.i c.args.o true c.args.text.now ((c.read-reading.new.nodes)) ((c.in-Good.count)) = read_represents c.args.i c.args.o true c.args.text.now ((c.read-reading.new.nodes)) c.read-reading.result ((c.in-Good.count)) c.in-Good.is c.read-reading.ensures.reading c.read-reading.ensures.nodes in
+    let represented : Represented c.args.i c.args.o true c.args.text.now c.read-reading.new.nodes c.in-Good.count = read_represents c.args.i c.args.o true c.args.text.now c.read-reading.new.nodes c.read-reading.result c.in-Good.count c.in-Good.is c.read-reading.ensures.reading c.read-reading.ensures.nodes in
     let fits : bad_alphabet c.args.i c.args.o ≡ false = sym c.bad_alphabet.ensures ∙ c.if-bad_alphabet.false in
     let short : too_long c.args.text.now ≡ false = sym c.too_long.ensures ∙ c.if-too_long.false in
-    let letters-of : LettersFit c.args.i c.args.o c.power-letters.result = letters_fit c.args.i c.args.o c.power-letters.result (fits) c.power-letters.ensures in
+    let letters-of : LettersFit c.args.i c.args.o c.power-letters.result = letters_fit c.args.i c.args.o c.power-letters.result fits c.power-letters.ensures in
     let built : BuiltAutomaton (represented).formula (letter_count c.args.i c.args.o) c.args.room
     c.args.transitions.now c.args.accepting.now c.build_nodes.new.transitions
     c.build_nodes.new.accepting c.build_nodes.result = let v = represented in
@@ -67,5 +67,5 @@ returns c =
     c.build_nodes.new.transitions c.build_nodes.new.accepting c.build_nodes.result)
     (letters-of).is (c.build_nodes.ensures v.formula v.represents) in
     let v = represented in
-    by_states c.args.i c.args.o c.args.text.now c.args.room c.args.transitions.now c.args.accepting.now (fits) (short)
-    ((c.in-Good.count)) v.reading v.formula v.good _ _ c.build_nodes.result (built)
+    by_states c.args.i c.args.o c.args.text.now c.args.room c.args.transitions.now c.args.accepting.now fits short
+    c.in-Good.count v.reading v.formula v.good _ _ c.build_nodes.result built

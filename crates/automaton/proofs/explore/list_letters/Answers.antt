@@ -35,7 +35,7 @@ loop-a-preserved-then-b-a c =
       c.loop-a.invariant.2,
       c.loop-a.invariant.3,
       λ φ tab e done.
-          letter_twin φ _ _ _ _ c.loop-a.list (listed) c.loop-a-test.true (c.loop-a.invariant.4 φ tab e done) _ c.if-b-a.true (twin φ tab e),
+          letter_twin φ _ _ _ _ c.loop-a.list listed c.loop-a-test.true (c.loop-a.invariant.4 φ tab e done) _ c.if-b-a.true (twin φ tab e),
     )
 
 pub returns-then-p-eq-STATE_LIMIT : goal.returns-then-p-eq-STATE_LIMIT
@@ -49,7 +49,7 @@ returns-then-p-eq-STATE_LIMIT c =
     let b = small in
     let n=limit : c.loop-a.n ≡ state_limit = omega (arith, c.loop-a.invariant.2) in record {
       listed = λ φ tab e done.
-          letter_over φ _ _ _ _ c.loop-a.list (listed) c.loop-a-test.true (c.loop-a.invariant.4 φ tab e done) _ _ (next φ tab e) c.find_state-p.ensures
+          letter_over φ _ _ _ _ c.loop-a.list listed c.loop-a-test.true (c.loop-a.invariant.4 φ tab e done) _ _ (next φ tab e) c.find_state-p.ensures
           (c.if-p-eq-STATE_LIMIT.true ∙ sym n=limit) n=limit;
       bounded = (omega (arith, c.loop-a.invariant.1, c.loop-a.invariant.2), omega arith);
     }
@@ -74,7 +74,7 @@ loop-a-preserved-then-p-n c =
       omega arith,
       simp length-set c.loop-a.invariant.3,
       λ φ tab e done.
-          letter_new φ _ _ _ _ c.loop-a.list (listed) c.loop-a-test.true (c.loop-a.invariant.4 φ tab e done) _ _ (next φ tab e) c.find_state-p.ensures
+          letter_new φ _ _ _ _ c.loop-a.list listed c.loop-a-test.true (c.loop-a.invariant.4 φ tab e done) _ _ (next φ tab e) c.find_state-p.ensures
           c.if-p-n.true (omega (arith, c.requires.5, c.loop-a.invariant.3)),
     )
 
@@ -90,7 +90,7 @@ loop-a-preserved c =
       c.loop-a.invariant.2,
       c.loop-a.invariant.3,
       λ φ tab e done.
-          letter_old φ _ _ _ _ c.loop-a.list (listed) c.loop-a-test.true (c.loop-a.invariant.4 φ tab e done) _ _ (next φ tab e) c.find_state-p.ensures
+          letter_old φ _ _ _ _ c.loop-a.list listed c.loop-a-test.true (c.loop-a.invariant.4 φ tab e done) _ _ (next φ tab e) c.find_state-p.ensures
           c.if-p-n.false,
     )
 

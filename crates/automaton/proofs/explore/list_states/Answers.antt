@@ -38,7 +38,7 @@ returns-then-r-gt-STATE_LIMIT c =
     let listed : (φ : Formula)
     → Tabulates φ c.args.letters c.args.table.now
     → c.args.vectors ≡ 2 ^ suc (operators φ) → c.args.first ≡ start φ
-    → StateListed φ c.args.letters c.loop-s.s c.list_letters-r.result ((c.list_letters-r.new.list)) = λ φ tab e f. c.list_letters-r.ensures.listed φ tab e (c.loop-s.invariant.3 φ tab e f) in
+    → StateListed φ c.args.letters c.loop-s.s c.list_letters-r.result c.list_letters-r.new.list = λ φ tab e f. c.list_letters-r.ensures.listed φ tab e (c.loop-s.invariant.3 φ tab e f) in
     let over : c.list_letters-r.result ≡ suc state_limit = omega (arith, c.list_letters-r.ensures.bounded.1, c.if-r-gt-STATE_LIMIT.true) in
     record { listed = λ φ tab e f. (listed φ tab e f).beyond over; bounded = c.list_letters-r.ensures.bounded.1 }
 
@@ -47,11 +47,11 @@ loop-s-preserved c =
     let listed : (φ : Formula)
     → Tabulates φ c.args.letters c.args.table.now
     → c.args.vectors ≡ 2 ^ suc (operators φ) → c.args.first ≡ start φ
-    → StateListed φ c.args.letters c.loop-s.s c.list_letters-r.result ((c.list_letters-r.new.list)) = λ φ tab e f. c.list_letters-r.ensures.listed φ tab e (c.loop-s.invariant.3 φ tab e f) in (
+    → StateListed φ c.args.letters c.loop-s.s c.list_letters-r.result c.list_letters-r.new.list = λ φ tab e f. c.list_letters-r.ensures.listed φ tab e (c.loop-s.invariant.3 φ tab e f) in (
       omega (arith, c.loop-s-test.true, c.list_letters-r.ensures.bounded.0),
       c.if-r-gt-STATE_LIMIT.false,
       c.list_letters-r.auto.list ∙ c.loop-s.invariant.2,
-      λ φ tab e f. next_state φ _ _ _ ((c.list_letters-r.new.list)) (listed φ tab e f) c.if-r-gt-STATE_LIMIT.false,
+      λ φ tab e f. next_state φ _ _ _ c.list_letters-r.new.list (listed φ tab e f) c.if-r-gt-STATE_LIMIT.false,
     )
 
 pub shape_of-list : goal.shape_of-list

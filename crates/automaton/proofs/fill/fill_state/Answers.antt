@@ -38,7 +38,7 @@ overflow_add-transitions c =
       few = c.requires.4;
       room = omega (arith, c.requires.6, c.loop-a.invariant.1.size);
     } in
-    let room : c.args.s * c.args.letters + c.loop-a.a < length c.loop-a.transitions = turn_room _ _ _ _ _ (letter) in
+    let room : c.args.s * c.args.letters + c.loop-a.a < length c.loop-a.transitions = turn_room _ _ _ _ _ letter in
     omega (arith, room)
 
 pub bounds-transitions-row : goal.bounds-transitions-row
@@ -50,7 +50,7 @@ bounds-transitions-row c =
       few = c.requires.4;
       room = omega (arith, c.requires.6, c.loop-a.invariant.1.size);
     } in
-    let room : c.args.s * c.args.letters + c.loop-a.a < length c.loop-a.transitions = turn_room _ _ _ _ _ (letter) in
+    let room : c.args.s * c.args.letters + c.loop-a.a < length c.loop-a.transitions = turn_room _ _ _ _ _ letter in
     omega (arith, room)
 
 pub overflow_add-transitions-then-b-a : goal.overflow_add-transitions-then-b-a
@@ -62,7 +62,7 @@ overflow_add-transitions-then-b-a c =
       few = c.requires.4;
       room = omega (arith, c.requires.6, c.loop-a.invariant.1.size);
     } in
-    let room : c.args.s * c.args.letters + c.loop-a.a < length c.loop-a.transitions = turn_room _ _ _ _ _ (letter) in
+    let room : c.args.s * c.args.letters + c.loop-a.a < length c.loop-a.transitions = turn_room _ _ _ _ _ letter in
     omega (arith, room)
 
 pub bounds-transitions-row-then-b-a : goal.bounds-transitions-row-then-b-a
@@ -74,7 +74,7 @@ bounds-transitions-row-then-b-a c =
       few = c.requires.4;
       room = omega (arith, c.requires.6, c.loop-a.invariant.1.size);
     } in
-    let room : c.args.s * c.args.letters + c.loop-a.a < length c.loop-a.transitions = turn_room _ _ _ _ _ (letter) in
+    let room : c.args.s * c.args.letters + c.loop-a.a < length c.loop-a.transitions = turn_room _ _ _ _ _ letter in
     omega (arith, room)
 
 pub loop-a-preserved-then-b-a : goal.loop-a-preserved-then-b-a
@@ -93,7 +93,7 @@ loop-a-preserved-then-b-a c =
       omega arith,
       kept_stored _ _ _ c.args.transitions.now c.loop-a.transitions c.loop-a.invariant.1 (omega arith),
       λ φ tab e all filled.
-          letter_twin φ _ _ _ _ c.args.list.now c.loop-a.transitions (letter) all (c.loop-a.invariant.2 φ tab e all filled) _ c.if-b-a.true
+          letter_twin φ _ _ _ _ c.args.list.now c.loop-a.transitions letter all (c.loop-a.invariant.2 φ tab e all filled) _ c.if-b-a.true
           (twin φ tab e),
     )
 
@@ -110,7 +110,7 @@ overflow_add-transitions-in-loop-a c =
       few = c.requires.4;
       room = omega (arith, c.requires.6, c.loop-a.invariant.1.size);
     } in
-    let room : c.args.s * c.args.letters + c.loop-a.a < length c.loop-a.transitions = turn_room _ _ _ _ _ (letter) in
+    let room : c.args.s * c.args.letters + c.loop-a.a < length c.loop-a.transitions = turn_room _ _ _ _ _ letter in
     omega (arith, room)
 
 pub bounds-transitions-row-in-loop-a : goal.bounds-transitions-row-in-loop-a
@@ -122,7 +122,7 @@ bounds-transitions-row-in-loop-a c =
       few = c.requires.4;
       room = omega (arith, c.requires.6, c.loop-a.invariant.1.size);
     } in
-    let room : c.args.s * c.args.letters + c.loop-a.a < length c.loop-a.transitions = turn_room _ _ _ _ _ (letter) in
+    let room : c.args.s * c.args.letters + c.loop-a.a < length c.loop-a.transitions = turn_room _ _ _ _ _ letter in
     omega (arith, room)
 
 pub loop-a-preserved : goal.loop-a-preserved
@@ -137,7 +137,7 @@ loop-a-preserved c =
       omega (arith, c.loop-a-test.true),
       kept_stored _ _ _ c.args.transitions.now c.loop-a.transitions c.loop-a.invariant.1 (omega arith),
       λ φ tab e all filled.
-          letter_place φ _ _ _ _ c.args.list.now c.loop-a.transitions (letter) all (c.loop-a.invariant.2 φ tab e all filled) _ _
+          letter_place φ _ _ _ _ c.args.list.now c.loop-a.transitions letter all (c.loop-a.invariant.2 φ tab e all filled) _ _
           (c.successor-x.ensures φ c.args.letters tab c.loop-a-test.true e) c.find_state-p.ensures,
     )
 

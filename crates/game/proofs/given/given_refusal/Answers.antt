@@ -13,12 +13,12 @@ use Rattle.game.proofs.given.given_refusal.Goals as goal
 
 pub returns-then-bad_alphabet : goal.returns-then-bad_alphabet
 returns-then-bad_alphabet c =
-    alphabet_refused c.args.i c.args.o c.args.start ((arena c.args.i c.args.o c.args.n c.args.transitions.now c.args.accepting.now c.args.mask)) c.args.system.now c.args.environment.now
+    alphabet_refused c.args.i c.args.o c.args.start (arena c.args.i c.args.o c.args.n c.args.transitions.now c.args.accepting.now c.args.mask) c.args.system.now c.args.environment.now
     (sym c.bad_alphabet.ensures ∙ c.if-bad_alphabet.true)
 
 pub returns-then-bad_count : goal.returns-then-bad_count
 returns-then-bad_count c =
-    count_refused c.args.i c.args.o c.args.start ((arena c.args.i c.args.o c.args.n c.args.transitions.now c.args.accepting.now c.args.mask)) c.args.system.now c.args.environment.now
+    count_refused c.args.i c.args.o c.args.start (arena c.args.i c.args.o c.args.n c.args.transitions.now c.args.accepting.now c.args.mask) c.args.system.now c.args.environment.now
     (sym c.bad_alphabet.ensures ∙ c.if-bad_alphabet.false) (sym c.bad_count.ensures ∙ c.if-bad_count.true)
 
 pub sizes_of-sizes-requires : goal.sizes_of-sizes-requires
@@ -30,12 +30,12 @@ pub later_refusal-requires : goal.later_refusal-requires
 later_refusal-requires c =
     let alphabet-good : bad_alphabet c.args.i c.args.o ≡ false = sym c.bad_alphabet.ensures ∙ c.if-bad_alphabet.false in
     let count-good : bad_count c.args.n ≡ false = sym c.bad_count.ensures ∙ c.if-bad_count.false in
-    subst (λ (z : Sizes). InRange z) (sym c.sizes_of-sizes.ensures) (in_range c.args.n c.args.i c.args.o (alphabet-good) (count-good))
+    subst (λ (z : Sizes). InRange z) (sym c.sizes_of-sizes.ensures) (in_range c.args.n c.args.i c.args.o alphabet-good count-good)
 
 pub returns : goal.returns
 returns c =
     let alphabet-good : bad_alphabet c.args.i c.args.o ≡ false = sym c.bad_alphabet.ensures ∙ c.if-bad_alphabet.false in
     let count-good : bad_count c.args.n ≡ false = sym c.bad_count.ensures ∙ c.if-bad_count.false in
-    refused_later c.args.i c.args.o c.args.start ((arena c.args.i c.args.o c.args.n c.args.transitions.now c.args.accepting.now c.args.mask)) c.args.system.now c.args.environment.now (alphabet-good) (count-good) c.later_refusal.result
+    refused_later c.args.i c.args.o c.args.start (arena c.args.i c.args.o c.args.n c.args.transitions.now c.args.accepting.now c.args.mask) c.args.system.now c.args.environment.now alphabet-good count-good c.later_refusal.result
     (subst (λ (z : Sizes). c.later_refusal.result ≡ later_refusal c.args.start (arena_at z c.args.transitions.now c.args.accepting.now c.args.mask)
     c.args.system.now c.args.environment.now) c.sizes_of-sizes.ensures c.later_refusal.ensures)

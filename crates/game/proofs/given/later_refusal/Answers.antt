@@ -10,16 +10,16 @@ use Rattle.game.proofs.given.later_refusal.Goals as goal
 
 pub returns-then-short_read : goal.returns-then-short_read
 returns-then-short_read c =
-    read_refused c.args.start ((arena_at c.args.sizes c.args.transitions.now c.args.accepting.now c.args.mask)) c.args.system.now c.args.environment.now (sym c.short_read.ensures ∙ c.if-short_read.true)
+    read_refused c.args.start (arena_at c.args.sizes c.args.transitions.now c.args.accepting.now c.args.mask) c.args.system.now c.args.environment.now (sym c.short_read.ensures ∙ c.if-short_read.true)
 
 pub returns-then-short_tables : goal.returns-then-short_tables
 returns-then-short_tables c =
-    tables_refused c.args.start ((arena_at c.args.sizes c.args.transitions.now c.args.accepting.now c.args.mask)) c.args.system.now c.args.environment.now
+    tables_refused c.args.start (arena_at c.args.sizes c.args.transitions.now c.args.accepting.now c.args.mask) c.args.system.now c.args.environment.now
     (sym c.short_read.ensures ∙ c.if-short_read.false) (sym c.short_tables.ensures ∙ c.if-short_tables.true)
 
 pub returns-then-states-start : goal.returns-then-states-start
 returns-then-states-start c =
-    state_refused c.args.start ((arena_at c.args.sizes c.args.transitions.now c.args.accepting.now c.args.mask)) c.args.system.now c.args.environment.now
+    state_refused c.args.start (arena_at c.args.sizes c.args.transitions.now c.args.accepting.now c.args.mask) c.args.system.now c.args.environment.now
     (sym c.short_read.ensures ∙ c.if-short_read.false)
     (sym c.short_tables.ensures ∙ c.if-short_tables.false) c.if-states-start.true
 
@@ -33,36 +33,36 @@ overflow_mul-count c =
 
 pub slice_bounds-first_over-end : goal.slice_bounds-first_over-end
 slice_bounds-first_over-end c =
-    let read_no : short_read ((arena_at c.args.sizes c.args.transitions.now c.args.accepting.now c.args.mask)) ≡ false = sym c.short_read.ensures ∙ c.if-short_read.false in
+    let read_no : short_read (arena_at c.args.sizes c.args.transitions.now c.args.accepting.now c.args.mask) ≡ false = sym c.short_read.ensures ∙ c.if-short_read.false in
     let g = (arena_at c.args.sizes c.args.transitions.now c.args.accepting.now c.args.mask) in
-    sym (length-take-le (move_count g) g.transitions (transitions_long g (read_no)))
+    sym (length-take-le (move_count g) g.transitions (transitions_long g read_no))
 
 pub returns-then-k-count : goal.returns-then-k-count
 returns-then-k-count c =
-    let read_no : short_read ((arena_at c.args.sizes c.args.transitions.now c.args.accepting.now c.args.mask)) ≡ false = sym c.short_read.ensures ∙ c.if-short_read.false in
-    let tables-no : short_tables ((arena_at c.args.sizes c.args.transitions.now c.args.accepting.now c.args.mask)) c.args.system.now c.args.environment.now ≡ false = sym c.short_tables.ensures ∙ c.if-short_tables.false in
-    move_refused c.args.start ((arena_at c.args.sizes c.args.transitions.now c.args.accepting.now c.args.mask)) c.args.system.now c.args.environment.now (read_no) (tables-no) c.if-states-start.false
+    let read_no : short_read (arena_at c.args.sizes c.args.transitions.now c.args.accepting.now c.args.mask) ≡ false = sym c.short_read.ensures ∙ c.if-short_read.false in
+    let tables-no : short_tables (arena_at c.args.sizes c.args.transitions.now c.args.accepting.now c.args.mask) c.args.system.now c.args.environment.now ≡ false = sym c.short_tables.ensures ∙ c.if-short_tables.false in
+    move_refused c.args.start (arena_at c.args.sizes c.args.transitions.now c.args.accepting.now c.args.mask) c.args.system.now c.args.environment.now read_no tables-no c.if-states-start.false
     c.first_over-k.result c.first_over-k.ensures c.if-k-count.true
 
 pub returns-then-bad_mask : goal.returns-then-bad_mask
 returns-then-bad_mask c =
-    let read_no : short_read ((arena_at c.args.sizes c.args.transitions.now c.args.accepting.now c.args.mask)) ≡ false = sym c.short_read.ensures ∙ c.if-short_read.false in
-    let tables-no : short_tables ((arena_at c.args.sizes c.args.transitions.now c.args.accepting.now c.args.mask)) c.args.system.now c.args.environment.now ≡ false = sym c.short_tables.ensures ∙ c.if-short_tables.false in
-    mask_refused c.args.start ((arena_at c.args.sizes c.args.transitions.now c.args.accepting.now c.args.mask)) c.args.system.now c.args.environment.now (read_no) (tables-no) c.if-states-start.false
+    let read_no : short_read (arena_at c.args.sizes c.args.transitions.now c.args.accepting.now c.args.mask) ≡ false = sym c.short_read.ensures ∙ c.if-short_read.false in
+    let tables-no : short_tables (arena_at c.args.sizes c.args.transitions.now c.args.accepting.now c.args.mask) c.args.system.now c.args.environment.now ≡ false = sym c.short_tables.ensures ∙ c.if-short_tables.false in
+    mask_refused c.args.start (arena_at c.args.sizes c.args.transitions.now c.args.accepting.now c.args.mask) c.args.system.now c.args.environment.now read_no tables-no c.if-states-start.false
     c.first_over-k.result c.first_over-k.ensures c.if-k-count.false (sym c.bad_mask.ensures ∙ c.if-bad_mask.true)
 
 pub returns-then-mask-eq0 : goal.returns-then-mask-eq0
 returns-then-mask-eq0 c =
-    let read_no : short_read ((arena_at c.args.sizes c.args.transitions.now c.args.accepting.now c.args.mask)) ≡ false = sym c.short_read.ensures ∙ c.if-short_read.false in
-    let tables-no : short_tables ((arena_at c.args.sizes c.args.transitions.now c.args.accepting.now c.args.mask)) c.args.system.now c.args.environment.now ≡ false = sym c.short_tables.ensures ∙ c.if-short_tables.false in
-    let mask-no : bad_mask ((arena_at c.args.sizes c.args.transitions.now c.args.accepting.now c.args.mask)) ≡ false = sym c.bad_mask.ensures ∙ c.if-bad_mask.false in
-    unmet_refused c.args.start ((arena_at c.args.sizes c.args.transitions.now c.args.accepting.now c.args.mask)) c.args.system.now c.args.environment.now (read_no) (tables-no) c.if-states-start.false
-    c.first_over-k.result c.first_over-k.ensures c.if-k-count.false (mask-no) (empty_mask ((arena_at c.args.sizes c.args.transitions.now c.args.accepting.now c.args.mask)) c.if-mask-eq0.true)
+    let read_no : short_read (arena_at c.args.sizes c.args.transitions.now c.args.accepting.now c.args.mask) ≡ false = sym c.short_read.ensures ∙ c.if-short_read.false in
+    let tables-no : short_tables (arena_at c.args.sizes c.args.transitions.now c.args.accepting.now c.args.mask) c.args.system.now c.args.environment.now ≡ false = sym c.short_tables.ensures ∙ c.if-short_tables.false in
+    let mask-no : bad_mask (arena_at c.args.sizes c.args.transitions.now c.args.accepting.now c.args.mask) ≡ false = sym c.bad_mask.ensures ∙ c.if-bad_mask.false in
+    unmet_refused c.args.start (arena_at c.args.sizes c.args.transitions.now c.args.accepting.now c.args.mask) c.args.system.now c.args.environment.now read_no tables-no c.if-states-start.false
+    c.first_over-k.result c.first_over-k.ensures c.if-k-count.false mask-no (empty_mask (arena_at c.args.sizes c.args.transitions.now c.args.accepting.now c.args.mask) c.if-mask-eq0.true)
 
 pub returns : goal.returns
 returns c =
-    let read_no : short_read ((arena_at c.args.sizes c.args.transitions.now c.args.accepting.now c.args.mask)) ≡ false = sym c.short_read.ensures ∙ c.if-short_read.false in
-    let tables-no : short_tables ((arena_at c.args.sizes c.args.transitions.now c.args.accepting.now c.args.mask)) c.args.system.now c.args.environment.now ≡ false = sym c.short_tables.ensures ∙ c.if-short_tables.false in
-    let mask-no : bad_mask ((arena_at c.args.sizes c.args.transitions.now c.args.accepting.now c.args.mask)) ≡ false = sym c.bad_mask.ensures ∙ c.if-bad_mask.false in
-    none_refused c.args.start ((arena_at c.args.sizes c.args.transitions.now c.args.accepting.now c.args.mask)) c.args.system.now c.args.environment.now (read_no) (tables-no) c.if-states-start.false
-    c.first_over-k.result c.first_over-k.ensures c.if-k-count.false (mask-no) (some_mask ((arena_at c.args.sizes c.args.transitions.now c.args.accepting.now c.args.mask)) (mask-no) c.if-mask-eq0.false)
+    let read_no : short_read (arena_at c.args.sizes c.args.transitions.now c.args.accepting.now c.args.mask) ≡ false = sym c.short_read.ensures ∙ c.if-short_read.false in
+    let tables-no : short_tables (arena_at c.args.sizes c.args.transitions.now c.args.accepting.now c.args.mask) c.args.system.now c.args.environment.now ≡ false = sym c.short_tables.ensures ∙ c.if-short_tables.false in
+    let mask-no : bad_mask (arena_at c.args.sizes c.args.transitions.now c.args.accepting.now c.args.mask) ≡ false = sym c.bad_mask.ensures ∙ c.if-bad_mask.false in
+    none_refused c.args.start (arena_at c.args.sizes c.args.transitions.now c.args.accepting.now c.args.mask) c.args.system.now c.args.environment.now read_no tables-no c.if-states-start.false
+    c.first_over-k.result c.first_over-k.ensures c.if-k-count.false mask-no (some_mask (arena_at c.args.sizes c.args.transitions.now c.args.accepting.now c.args.mask) mask-no c.if-mask-eq0.false)

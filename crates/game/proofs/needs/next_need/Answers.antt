@@ -24,7 +24,7 @@ unfolding holds
 returns-then-g-x c =
     let some : 0 < get_or c.args.needs.now c.args.s 0 = positive (get_or c.args.needs.now c.args.s 0) c.if-own-eq0.false in
     let within : get_or c.args.needs.now c.args.s 0 ≤ c.args.limit = omega (arith, c.if-limit-own.false) in
-    look_stands c.requires.valid c.requires.bounds c.requires.s_lt_states.0 (some) (within) c.unserved-x.ensures c.if-g-x.true
+    look_stands c.requires.valid c.requires.bounds c.requires.s_lt_states.0 some within c.unserved-x.ensures c.if-g-x.true
 
 pub returns-then-has_condition : goal.returns-then-has_condition
 unfolding holds
@@ -32,7 +32,7 @@ returns-then-has_condition c =
     let some : 0 < get_or c.args.needs.now c.args.s 0 = positive (get_or c.args.needs.now c.args.s 0) c.if-own-eq0.false in
     let within : get_or c.args.needs.now c.args.s 0 ≤ c.args.limit = omega (arith, c.if-limit-own.false) in
     subst (λ (v : ℕ). NextNeed (arena_of c.args.g c.args.transitions.now c.args.accepting.now) c.args.limit c.args.needs.now c.args.s v) (sym c.raised.ensures)
-    (look_raises c.requires.valid c.requires.bounds c.requires.s_lt_states.0 (some) (within) c.unserved-x.ensures c.if-g-x.false (sym c.has_condition.ensures ∙ c.if-has_condition.true)
+    (look_raises c.requires.valid c.requires.bounds c.requires.s_lt_states.0 some within c.unserved-x.ensures c.if-g-x.false (sym c.has_condition.ensures ∙ c.if-has_condition.true)
     c.requires.s_lt_states.1)
 
 pub returns : goal.returns
@@ -40,4 +40,4 @@ unfolding holds
 returns c =
     let some : 0 < get_or c.args.needs.now c.args.s 0 = positive (get_or c.args.needs.now c.args.s 0) c.if-own-eq0.false in
     let within : get_or c.args.needs.now c.args.s 0 ≤ c.args.limit = omega (arith, c.if-limit-own.false) in
-    look_drops c.requires.valid c.requires.bounds c.requires.s_lt_states.0 (some) (within) c.unserved-x.ensures c.if-g-x.false (sym c.has_condition.ensures ∙ c.if-has_condition.false)
+    look_drops c.requires.valid c.requires.bounds c.requires.s_lt_states.0 some within c.unserved-x.ensures c.if-g-x.false (sym c.has_condition.ensures ∙ c.if-has_condition.false)

@@ -12,7 +12,7 @@ use Rattle.game.proofs.rounds.inner_ranks.Goals as goal
 pub loop-g-init : goal.loop-g-init
 loop-g-init c =
     let inner = replicate state_limit 0 in
-    (no_ranks inner (zeros state_limit), no_passes c.args.g.fair ((arena_of c.args.g c.args.transitions.now c.args.accepting.now)) c.args.outer.now inner, search rules, refl)
+    (no_ranks inner (zeros state_limit), no_passes c.args.g.fair (arena_of c.args.g c.args.transitions.now c.args.accepting.now) c.args.outer.now inner, search rules, refl)
 
 pub pass-requires : goal.pass-requires
 pass-requires c =

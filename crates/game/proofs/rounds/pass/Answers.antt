@@ -32,7 +32,7 @@ overflow_add-s c =
 pub loop-s-preserved : goal.loop-s-preserved
 loop-s-preserved c =
     let P : List ℕ → Bool → Type 0 = λ new gave.
-    Passed c.args.g.fair ((arena_of c.args.g c.args.transitions.now c.args.accepting.now)) c.args.outer.now c.args.inner.now new c.args.p (c.loop-s.s + 1) gave × (length new ≡ state_limit) in
+    Passed c.args.g.fair (arena_of c.args.g c.args.transitions.now c.args.accepting.now) c.args.outer.now c.args.inner.now new c.args.p (c.loop-s.s + 1) gave × (length new ≡ state_limit) in
     let here : P c.if-attracted.inner c.if-attracted.gave =
     (elim c.if-attracted.branch [
       | then-attracted w ↦ let d = c.attracted.ensures.gains w.if-attracted.true in

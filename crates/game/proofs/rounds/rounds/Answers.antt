@@ -66,12 +66,12 @@ loop-inner-preserved c =
 
 pub returns-then-g : goal.returns-then-g
 returns-then-g c =
-    let certified : Certified c.args.g.fair ((arena_of c.args.g c.args.transitions.now c.args.accepting.now)) c.promote.new.outer c.loop-inner.inner = rounds_end c.requires c.loop-inner.invariant.0 c.loop-inner.invariant.1 c.promote.ensures.promoted c.loop-inner-test.false
+    let certified : Certified c.args.g.fair (arena_of c.args.g c.args.transitions.now c.args.accepting.now) c.promote.new.outer c.loop-inner.inner = rounds_end c.requires c.loop-inner.invariant.0 c.loop-inner.invariant.1 c.promote.ensures.promoted c.loop-inner-test.false
     (omega (arith, count_bound c.loop-inner.outer c.args.g.states, c.loop-inner.invariant.2)) in
-    found_fair c.if-g.true (certified)
+    found_fair c.if-g.true certified
 
 pub returns : goal.returns
 returns c =
-    let certified : Certified c.args.g.fair ((arena_of c.args.g c.args.transitions.now c.args.accepting.now)) c.promote.new.outer c.loop-inner.inner = rounds_end c.requires c.loop-inner.invariant.0 c.loop-inner.invariant.1 c.promote.ensures.promoted c.loop-inner-test.false
+    let certified : Certified c.args.g.fair (arena_of c.args.g c.args.transitions.now c.args.accepting.now) c.promote.new.outer c.loop-inner.inner = rounds_end c.requires c.loop-inner.invariant.0 c.loop-inner.invariant.1 c.promote.ensures.promoted c.loop-inner-test.false
     (omega (arith, count_bound c.loop-inner.outer c.args.g.states, c.loop-inner.invariant.2)) in
-    found_stable c.if-g.false (certified)
+    found_stable c.if-g.false certified

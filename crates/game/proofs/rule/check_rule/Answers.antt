@@ -13,12 +13,12 @@ returns-then-bad_alphabet c =
 pub returns-then-too_long : goal.returns-then-too_long
 returns-then-too_long c =
     let fits : bad_alphabet c.args.i c.args.o ≡ false = sym c.bad_alphabet.ensures ∙ c.if-bad_alphabet.false in
-    by_rule_length c.args.i c.args.o c.args.rule.now c.args.condition.now 0 (fits) (sym c.too_long.ensures ∙ c.if-too_long.true)
+    by_rule_length c.args.i c.args.o c.args.rule.now c.args.condition.now 0 fits (sym c.too_long.ensures ∙ c.if-too_long.true)
 
 pub returns-then-too_long-2 : goal.returns-then-too_long-2
 returns-then-too_long-2 c =
     let fits : bad_alphabet c.args.i c.args.o ≡ false = sym c.bad_alphabet.ensures ∙ c.if-bad_alphabet.false in
-    by_condition_length c.args.i c.args.o c.args.rule.now c.args.condition.now 0 (fits) (sym c.too_long-2.ensures ∙ c.if-too_long-2.true)
+    by_condition_length c.args.i c.args.o c.args.rule.now c.args.condition.now 0 fits (sym c.too_long-2.ensures ∙ c.if-too_long-2.true)
 
 pub check_texts-requires : goal.check_texts-requires
 check_texts-requires c =

@@ -27,12 +27,12 @@ returns-in_default c =
 pub returns-in-Mask : goal.returns-in-Mask
 returns-in-Mask c =
     let good : ReadingOf c.args.i (rule_kind c.args.i c.args.o) c.args.rule.now (Good c.in-Good.field-0) = subst (λ (r : Reading). ReadingOf c.args.i (rule_kind c.args.i c.args.o) c.args.rule.now r) c.in-Good.is c.check-reading.ensures in
-    by_none c.args.i c.args.o c.args.rule.now c.args.condition.now c.in-Mask.mask c.requires.0 c.requires.1 c.requires.2 c.in-Good.field-0 (good)
+    by_none c.args.i c.args.o c.args.rule.now c.args.condition.now c.in-Mask.mask c.requires.0 c.requires.1 c.requires.2 c.in-Good.field-0 good
     (subst (λ (x : Assumption). Conditioned c.args.i c.args.condition.now x) c.in-Mask.is c.read_condition.ensures)
 
 pub returns-in-Refused : goal.returns-in-Refused
 returns-in-Refused c =
     let good : ReadingOf c.args.i (rule_kind c.args.i c.args.o) c.args.rule.now (Good c.in-Good.field-0) = subst (λ (r : Reading). ReadingOf c.args.i (rule_kind c.args.i c.args.o) c.args.rule.now r) c.in-Good.is c.check-reading.ensures in
-    by_condition c.args.i c.args.o c.args.rule.now c.args.condition.now 0 c.requires.0 c.requires.1 c.requires.2 c.in-Good.field-0 (good)
+    by_condition c.args.i c.args.o c.args.rule.now c.args.condition.now 0 c.requires.0 c.requires.1 c.requires.2 c.in-Good.field-0 good
     c.in-Refused.x
     (subst (λ (y : Assumption). Conditioned c.args.i c.args.condition.now y) c.in-Refused.is c.read_condition.ensures)

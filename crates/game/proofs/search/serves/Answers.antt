@@ -12,26 +12,26 @@ pub returns-then-accepting-t-ne0 : goal.returns-then-accepting-t-ne0
 unfolding holds
 returns-then-accepting-t-ne0 c =
     let moved : (b : Bool)
-    → serving_at ((arena_of c.args.g c.args.transitions.now c.args.accepting.now)) ((ranked_below c.args.limits.won c.args.won.now)) ((safe_below c.args.limits.inside c.args.limits.safe c.args.safe.now)) c.args.x c.enters-t.result ≡ b
-    → b ≡ serving_at ((arena_of c.args.g c.args.transitions.now c.args.accepting.now)) ((ranked_below c.args.limits.won c.args.won.now)) ((safe_below c.args.limits.inside c.args.limits.safe c.args.safe.now)) c.args.x (next ((arena_of c.args.g c.args.transitions.now c.args.accepting.now)) c.args.s c.args.x c.args.y) = λ b e. sym e ∙ ap (serving_at ((arena_of c.args.g c.args.transitions.now c.args.accepting.now)) ((ranked_below c.args.limits.won c.args.won.now)) ((safe_below c.args.limits.inside c.args.limits.safe c.args.safe.now)) c.args.x) (c.enters-t.ensures.is c.args.accepting.now) in
-    moved _ (at_goal ((arena_of c.args.g c.args.transitions.now c.args.accepting.now)) ((ranked_below c.args.limits.won c.args.won.now)) ((safe_below c.args.limits.inside c.args.limits.safe c.args.safe.now)) c.args.x c.enters-t.result c.if-accepting-t-ne0.true)
+    → serving_at (arena_of c.args.g c.args.transitions.now c.args.accepting.now) (ranked_below c.args.limits.won c.args.won.now) (safe_below c.args.limits.inside c.args.limits.safe c.args.safe.now) c.args.x c.enters-t.result ≡ b
+    → b ≡ serving_at (arena_of c.args.g c.args.transitions.now c.args.accepting.now) (ranked_below c.args.limits.won c.args.won.now) (safe_below c.args.limits.inside c.args.limits.safe c.args.safe.now) c.args.x (next (arena_of c.args.g c.args.transitions.now c.args.accepting.now) c.args.s c.args.x c.args.y) = λ b e. sym e ∙ ap (serving_at (arena_of c.args.g c.args.transitions.now c.args.accepting.now) (ranked_below c.args.limits.won c.args.won.now) (safe_below c.args.limits.inside c.args.limits.safe c.args.safe.now) c.args.x) (c.enters-t.ensures.is c.args.accepting.now) in
+    moved _ (at_goal (arena_of c.args.g c.args.transitions.now c.args.accepting.now) (ranked_below c.args.limits.won c.args.won.now) (safe_below c.args.limits.inside c.args.limits.safe c.args.safe.now) c.args.x c.enters-t.result c.if-accepting-t-ne0.true)
 
 pub returns-then-holds : goal.returns-then-holds
 unfolding holds
 returns-then-holds c =
     let moved : (b : Bool)
-    → serving_at ((arena_of c.args.g c.args.transitions.now c.args.accepting.now)) ((ranked_below c.args.limits.won c.args.won.now)) ((safe_below c.args.limits.inside c.args.limits.safe c.args.safe.now)) c.args.x c.enters-t.result ≡ b
-    → b ≡ serving_at ((arena_of c.args.g c.args.transitions.now c.args.accepting.now)) ((ranked_below c.args.limits.won c.args.won.now)) ((safe_below c.args.limits.inside c.args.limits.safe c.args.safe.now)) c.args.x (next ((arena_of c.args.g c.args.transitions.now c.args.accepting.now)) c.args.s c.args.x c.args.y) = λ b e. sym e ∙ ap (serving_at ((arena_of c.args.g c.args.transitions.now c.args.accepting.now)) ((ranked_below c.args.limits.won c.args.won.now)) ((safe_below c.args.limits.inside c.args.limits.safe c.args.safe.now)) c.args.x) (c.enters-t.ensures.is c.args.accepting.now) in
+    → serving_at (arena_of c.args.g c.args.transitions.now c.args.accepting.now) (ranked_below c.args.limits.won c.args.won.now) (safe_below c.args.limits.inside c.args.limits.safe c.args.safe.now) c.args.x c.enters-t.result ≡ b
+    → b ≡ serving_at (arena_of c.args.g c.args.transitions.now c.args.accepting.now) (ranked_below c.args.limits.won c.args.won.now) (safe_below c.args.limits.inside c.args.limits.safe c.args.safe.now) c.args.x (next (arena_of c.args.g c.args.transitions.now c.args.accepting.now) c.args.s c.args.x c.args.y) = λ b e. sym e ∙ ap (serving_at (arena_of c.args.g c.args.transitions.now c.args.accepting.now) (ranked_below c.args.limits.won c.args.won.now) (safe_below c.args.limits.inside c.args.limits.safe c.args.safe.now) c.args.x) (c.enters-t.ensures.is c.args.accepting.now) in
     c.ranked_below.ensures
-    ∙ moved _ (at_condition ((arena_of c.args.g c.args.transitions.now c.args.accepting.now)) ((ranked_below c.args.limits.won c.args.won.now)) ((safe_below c.args.limits.inside c.args.limits.safe c.args.safe.now)) c.args.x c.enters-t.result c.if-accepting-t-ne0.false
+    ∙ moved _ (at_condition (arena_of c.args.g c.args.transitions.now c.args.accepting.now) (ranked_below c.args.limits.won c.args.won.now) (safe_below c.args.limits.inside c.args.limits.safe c.args.safe.now) c.args.x c.enters-t.result c.if-accepting-t-ne0.false
     (sym c.requires.holds_value ∙ c.if-holds.true))
 
 pub returns : goal.returns
 unfolding holds
 returns c =
     let moved : (b : Bool)
-    → serving_at ((arena_of c.args.g c.args.transitions.now c.args.accepting.now)) ((ranked_below c.args.limits.won c.args.won.now)) ((safe_below c.args.limits.inside c.args.limits.safe c.args.safe.now)) c.args.x c.enters-t.result ≡ b
-    → b ≡ serving_at ((arena_of c.args.g c.args.transitions.now c.args.accepting.now)) ((ranked_below c.args.limits.won c.args.won.now)) ((safe_below c.args.limits.inside c.args.limits.safe c.args.safe.now)) c.args.x (next ((arena_of c.args.g c.args.transitions.now c.args.accepting.now)) c.args.s c.args.x c.args.y) = λ b e. sym e ∙ ap (serving_at ((arena_of c.args.g c.args.transitions.now c.args.accepting.now)) ((ranked_below c.args.limits.won c.args.won.now)) ((safe_below c.args.limits.inside c.args.limits.safe c.args.safe.now)) c.args.x) (c.enters-t.ensures.is c.args.accepting.now) in
+    → serving_at (arena_of c.args.g c.args.transitions.now c.args.accepting.now) (ranked_below c.args.limits.won c.args.won.now) (safe_below c.args.limits.inside c.args.limits.safe c.args.safe.now) c.args.x c.enters-t.result ≡ b
+    → b ≡ serving_at (arena_of c.args.g c.args.transitions.now c.args.accepting.now) (ranked_below c.args.limits.won c.args.won.now) (safe_below c.args.limits.inside c.args.limits.safe c.args.safe.now) c.args.x (next (arena_of c.args.g c.args.transitions.now c.args.accepting.now) c.args.s c.args.x c.args.y) = λ b e. sym e ∙ ap (serving_at (arena_of c.args.g c.args.transitions.now c.args.accepting.now) (ranked_below c.args.limits.won c.args.won.now) (safe_below c.args.limits.inside c.args.limits.safe c.args.safe.now) c.args.x) (c.enters-t.ensures.is c.args.accepting.now) in
     ap (λ (b : Bool). beq b c.args.limits.inside) c.ranked_below-2.ensures
-    ∙ moved _ (at_else ((arena_of c.args.g c.args.transitions.now c.args.accepting.now)) ((ranked_below c.args.limits.won c.args.won.now)) ((safe_below c.args.limits.inside c.args.limits.safe c.args.safe.now)) c.args.x c.enters-t.result c.if-accepting-t-ne0.false
+    ∙ moved _ (at_else (arena_of c.args.g c.args.transitions.now c.args.accepting.now) (ranked_below c.args.limits.won c.args.won.now) (safe_below c.args.limits.inside c.args.limits.safe c.args.safe.now) c.args.x c.enters-t.result c.if-accepting-t-ne0.false
     (sym c.requires.holds_value ∙ c.if-holds.false))

@@ -8,7 +8,7 @@ use Rattle.game.proofs.tables.environment_byte.Goals as goal
 
 pub returns-then-own-eq0 : goal.returns-then-own-eq0
 returns-then-own-eq0 c =
-    no_input c.args.g.fair ((arena_of c.args.g c.args.transitions.now c.args.accepting.now)) c.args.ranks.now c.args.s c.if-own-eq0.true
+    no_input c.args.g.fair (arena_of c.args.g c.args.transitions.now c.args.accepting.now) c.args.ranks.now c.args.s c.if-own-eq0.true
 
 pub first_input-x-requires : goal.first_input-x-requires
 first_input-x-requires c =

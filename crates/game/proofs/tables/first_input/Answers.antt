@@ -39,9 +39,9 @@ returns-then-is_safe c =
     let has-rank : 0 < get_or c.args.ranks.now c.args.s 0 = omega (arith, c.requires.s_lt_states) in
     let limit_is : c.limit-allowed.result ≡ limit_of (not c.args.g.fair) c.args.g.states (not c.has_condition-judged.result)
     (get_or c.args.ranks.now c.args.s 0) = c.limit-allowed.ensures ∙ ap (λ (n : ℕ). limit_of (not c.args.g.fair) c.args.g.states (not c.has_condition-judged.result) n) c.requires.s_lt_states.2 in
-    input_is_byte c.args.g.fair ((arena_of c.args.g c.args.transitions.now c.args.accepting.now)) c.args.ranks.now c.args.s c.loop-x.x (has-rank)
-    (every_allowed c.args.g.fair ((arena_of c.args.g c.args.transitions.now c.args.accepting.now)) c.args.ranks.now c.args.s c.loop-x.x (not c.has_condition-judged.result) (ap not c.has_condition-judged.ensures)
-    c.limit-allowed.result (limit_is) c.loop-x-test.true (c.is_safe.ensures.safe c.if-is_safe.true))
+    input_is_byte c.args.g.fair (arena_of c.args.g c.args.transitions.now c.args.accepting.now) c.args.ranks.now c.args.s c.loop-x.x has-rank
+    (every_allowed c.args.g.fair (arena_of c.args.g c.args.transitions.now c.args.accepting.now) c.args.ranks.now c.args.s c.loop-x.x (not c.has_condition-judged.result) (ap not c.has_condition-judged.ensures)
+    c.limit-allowed.result limit_is c.loop-x-test.true (c.is_safe.ensures.safe c.if-is_safe.true))
     c.loop-x.invariant.1
 
 pub overflow_add-x : goal.overflow_add-x
@@ -57,13 +57,13 @@ loop-x-preserved c =
       omega arith,
       below_more _ _ c.loop-x.invariant.1
           (λ h. c.is_safe.ensures.unsafe c.if-is_safe.false
-          (allowed_every c.args.g.fair ((arena_of c.args.g c.args.transitions.now c.args.accepting.now)) c.args.ranks.now c.args.s c.loop-x.x (not c.has_condition-judged.result) (ap not c.has_condition-judged.ensures)
-          c.limit-allowed.result (limit_is) h)),
+          (allowed_every c.args.g.fair (arena_of c.args.g c.args.transitions.now c.args.accepting.now) c.args.ranks.now c.args.s c.loop-x.x (not c.has_condition-judged.result) (ap not c.has_condition-judged.ensures)
+          c.limit-allowed.result limit_is h)),
     )
 
 pub returns : goal.returns
 unfolding holds
 returns c =
     let has-rank : 0 < get_or c.args.ranks.now c.args.s 0 = omega (arith, c.requires.s_lt_states) in
-    let w = c.requires.ranked.forced c.args.s (has-rank) in
+    let w = c.requires.ranked.forced c.args.s has-rank in
     absurd (c.loop-x.invariant.1 w.0 (omega (arith, w.1)) (w.1, w.2))

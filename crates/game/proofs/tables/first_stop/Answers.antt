@@ -28,7 +28,7 @@ returns-then-accepting-t-ne0 c =
     record {
       within = omega arith;
       earlier = c.loop-left.invariant.1;
-      here = λ _. stops_at_goal ((arena_of c.args.g c.args.transitions.now c.args.accepting.now)) c.args.s c.args.x ((c.args.g.outputs - c.loop-left.left)) c.enters-t.result (c.enters-t.ensures.is _) c.args.ranks.now c.args.most
+      here = λ _. stops_at_goal (arena_of c.args.g c.args.transitions.now c.args.accepting.now) c.args.s c.args.x (c.args.g.outputs - c.loop-left.left) c.enters-t.result (c.enters-t.ensures.is _) c.args.ranks.now c.args.most
           c.args.player c.if-accepting-t-ne0.true;
     }
 
@@ -41,7 +41,7 @@ returns-then-is_below-player c =
     record {
       within = omega arith;
       earlier = c.loop-left.invariant.1;
-      here = λ _. stops_at_rank ((arena_of c.args.g c.args.transitions.now c.args.accepting.now)) c.args.s c.args.x ((c.args.g.outputs - c.loop-left.left)) c.enters-t.result (c.enters-t.ensures.is _) c.args.ranks.now c.args.most
+      here = λ _. stops_at_rank (arena_of c.args.g c.args.transitions.now c.args.accepting.now) c.args.s c.args.x (c.args.g.outputs - c.loop-left.left) c.enters-t.result (c.enters-t.ensures.is _) c.args.ranks.now c.args.most
           c.if-accepting-t-ne0.false c.is_below.ensures c.args.player c.if-is_below-player.true;
     }
 
@@ -58,10 +58,10 @@ loop-left-preserved c = (
   omega (arith, c.loop-left.invariant.0),
   subst
       (λ (b : ℕ). (k : ℕ) → k < b
-      → Claim (not c.args.player) (GoodOutput ((arena_of c.args.g c.args.transitions.now c.args.accepting.now)) c.args.player c.args.ranks.now c.args.most c.args.s c.args.x k))
+      → Claim (not c.args.player) (GoodOutput (arena_of c.args.g c.args.transitions.now c.args.accepting.now) c.args.player c.args.ranks.now c.args.most c.args.s c.args.x k))
       (let q : (c.args.g.outputs - c.loop-left.left) + 1 ≡ c.args.g.outputs - (c.loop-left.left - 1) = omega (arith, c.loop-left.invariant.0) in q)
       (below_more _ _ c.loop-left.invariant.1
-      (goes_on ((arena_of c.args.g c.args.transitions.now c.args.accepting.now)) c.args.s c.args.x ((c.args.g.outputs - c.loop-left.left)) c.enters-t.result (c.enters-t.ensures.is _) c.args.ranks.now c.args.most
+      (goes_on (arena_of c.args.g c.args.transitions.now c.args.accepting.now) c.args.s c.args.x (c.args.g.outputs - c.loop-left.left) c.enters-t.result (c.enters-t.ensures.is _) c.args.ranks.now c.args.most
       c.if-accepting-t-ne0.false c.is_below.ensures c.args.player c.if-is_below-player.false)),
 )
 

@@ -10,7 +10,7 @@ use Rattle.game.proofs.tables.system_byte.Goals as goal
 pub returns-then-own-eq0 : goal.returns-then-own-eq0
 unfolding holds
 returns-then-own-eq0 c =
-    no_output c.args.g.fair ((arena_of c.args.g c.args.transitions.now c.args.accepting.now)) c.args.most c.args.ranks.now c.args.s c.args.x c.if-own-eq0.true
+    no_output c.args.g.fair (arena_of c.args.g c.args.transitions.now c.args.accepting.now) c.args.most c.args.ranks.now c.args.s c.args.x c.if-own-eq0.true
 
 pub first_output-y-requires : goal.first_output-y-requires
 unfolding holds
@@ -18,7 +18,7 @@ first_output-y-requires c =
     let p : 0 < get_or c.args.ranks.now c.args.s 0 = positive (get_or c.args.ranks.now c.args.s 0) c.if-own-eq0.false in record {
       valid = c.requires.valid;
       s_lt_states = (c.requires.ranked.within c.args.s p, c.requires.s_lt_state_limit.1);
-      some_output = some_output c.args.g.fair ((arena_of c.args.g c.args.transitions.now c.args.accepting.now)) c.args.most c.args.ranks.now c.args.s c.args.x p c.has_condition-judged.result
+      some_output = some_output c.args.g.fair (arena_of c.args.g c.args.transitions.now c.args.accepting.now) c.args.most c.args.ranks.now c.args.s c.args.x p c.has_condition-judged.result
           c.has_condition-judged.ensures c.limit-allowed.result c.limit-allowed.ensures c.requires.ranked c.requires.s_lt_state_limit.1;
     }
 
@@ -26,6 +26,6 @@ pub returns : goal.returns
 unfolding holds
 returns c =
     let p : 0 < get_or c.args.ranks.now c.args.s 0 = positive (get_or c.args.ranks.now c.args.s 0) c.if-own-eq0.false in
-    output_is_byte c.args.g.fair ((arena_of c.args.g c.args.transitions.now c.args.accepting.now)) c.args.most c.args.ranks.now c.args.s c.args.x p
+    output_is_byte c.args.g.fair (arena_of c.args.g c.args.transitions.now c.args.accepting.now) c.args.most c.args.ranks.now c.args.s c.args.x p
     c.has_condition-judged.result c.has_condition-judged.ensures c.limit-allowed.result c.limit-allowed.ensures
     c.first_output-y.result c.first_output-y.ensures

@@ -24,13 +24,13 @@ ask-answer-requires c =
 pub digit_at-i-requires : goal.digit_at-i-requires
 digit_at-i-requires c =
     let requested : is_request c.args.input.now ≡ true = sym c.is_request.ensures ∙ not_false→ c.is_request.result (ap not c.if-not-is_request.false) in
-    let sizes : Digits c.args.input.now = request_size c.args.input.now (requested) in
+    let sizes : Digits c.args.input.now = request_size c.args.input.now requested in
     let d = sizes in (omega arith, d.low)
 
 pub put_listing-requires : goal.put_listing-requires
 put_listing-requires c =
     let requested : is_request c.args.input.now ≡ true = sym c.is_request.ensures ∙ not_false→ c.is_request.result (ap not c.if-not-is_request.false) in
-    let sizes : Digits c.args.input.now = request_size c.args.input.now (requested) in
+    let sizes : Digits c.args.input.now = request_size c.args.input.now requested in
     let d =
     sizes in (
       omega (arith, c.digit_at-i.ensures),
@@ -40,6 +40,6 @@ put_listing-requires c =
 pub returns : goal.returns
 returns c =
     let requested : is_request c.args.input.now ≡ true = sym c.is_request.ensures ∙ not_false→ c.is_request.result (ap not c.if-not-is_request.false) in
-    listed_answer c.args.input.now (requested) (buffers c.args.transitions.now c.args.accepting.now c.args.system.now c.args.environment.now) _ _ _
+    listed_answer c.args.input.now requested (buffers c.args.transitions.now c.args.accepting.now c.args.system.now c.args.environment.now) _ _ _
     _ c.ask-answer.result c.args.output.now _ _ c.requires c.ask-answer.ensures
     (rw (← c.digit_at-i.ensures) c.put_listing.ensures)

@@ -31,26 +31,26 @@ returns-then-among-3 c =
 pub returns-then-b-eq38 : goal.returns-then-b-eq38
 unfolding mark_kind
 returns-then-b-eq38 c =
-    let past-lists : mark_kind ((c.args.b)) ≡ unlisted ((c.args.b)) = simp (sym c.among.ensures ∙ c.if-among.false, sym c.among-2.ensures ∙ c.if-among-2.false, sym c.among-3.ensures ∙ c.if-among-3.false) in
+    let past-lists : mark_kind c.args.b ≡ unlisted c.args.b = simp (sym c.among.ensures ∙ c.if-among.false, sym c.among-2.ensures ∙ c.if-among-2.false, sym c.among-3.ensures ∙ c.if-among-3.false) in
     sym (past-lists ∙ simp (eq-eqb _ _ c.if-b-eq38.true))
 
 pub returns-then-b-eq124 : goal.returns-then-b-eq124
 unfolding mark_kind
 returns-then-b-eq124 c =
-    let past-lists : mark_kind ((c.args.b)) ≡ unlisted ((c.args.b)) = simp (sym c.among.ensures ∙ c.if-among.false, sym c.among-2.ensures ∙ c.if-among-2.false, sym c.among-3.ensures ∙ c.if-among-3.false) in
+    let past-lists : mark_kind c.args.b ≡ unlisted c.args.b = simp (sym c.among.ensures ∙ c.if-among.false, sym c.among-2.ensures ∙ c.if-among-2.false, sym c.among-3.ensures ∙ c.if-among-3.false) in
     sym (past-lists ∙ simp (ne_eqb _ _ c.if-b-eq38.false, eq-eqb _ _ c.if-b-eq124.true))
 
 pub returns-then-b-eq62 : goal.returns-then-b-eq62
 unfolding mark_kind
 returns-then-b-eq62 c =
-    let past-lists : mark_kind ((c.args.b)) ≡ unlisted ((c.args.b)) = simp (sym c.among.ensures ∙ c.if-among.false, sym c.among-2.ensures ∙ c.if-among-2.false, sym c.among-3.ensures ∙ c.if-among-3.false) in
+    let past-lists : mark_kind c.args.b ≡ unlisted c.args.b = simp (sym c.among.ensures ∙ c.if-among.false, sym c.among-2.ensures ∙ c.if-among-2.false, sym c.among-3.ensures ∙ c.if-among-3.false) in
     sym (past-lists
     ∙ simp (ne_eqb _ _ c.if-b-eq38.false, ne_eqb _ _ c.if-b-eq124.false, eq-eqb _ _ c.if-b-eq62.true))
 
 pub returns-then-b-eq40 : goal.returns-then-b-eq40
 unfolding mark_kind
 returns-then-b-eq40 c =
-    let past-lists : mark_kind ((c.args.b)) ≡ unlisted ((c.args.b)) = simp (sym c.among.ensures ∙ c.if-among.false, sym c.among-2.ensures ∙ c.if-among-2.false, sym c.among-3.ensures ∙ c.if-among-3.false) in
+    let past-lists : mark_kind c.args.b ≡ unlisted c.args.b = simp (sym c.among.ensures ∙ c.if-among.false, sym c.among-2.ensures ∙ c.if-among-2.false, sym c.among-3.ensures ∙ c.if-among-3.false) in
     sym (past-lists
     ∙ simp (
       ne_eqb _ _ c.if-b-eq38.false,
@@ -62,7 +62,7 @@ returns-then-b-eq40 c =
 pub returns-then-b-eq41 : goal.returns-then-b-eq41
 unfolding mark_kind
 returns-then-b-eq41 c =
-    let past-lists : mark_kind ((c.args.b)) ≡ unlisted ((c.args.b)) = simp (sym c.among.ensures ∙ c.if-among.false, sym c.among-2.ensures ∙ c.if-among-2.false, sym c.among-3.ensures ∙ c.if-among-3.false) in
+    let past-lists : mark_kind c.args.b ≡ unlisted c.args.b = simp (sym c.among.ensures ∙ c.if-among.false, sym c.among-2.ensures ∙ c.if-among-2.false, sym c.among-3.ensures ∙ c.if-among-3.false) in
     sym (past-lists
     ∙ simp (
       ne_eqb _ _ c.if-b-eq38.false,
@@ -75,7 +75,7 @@ returns-then-b-eq41 c =
 pub returns : goal.returns
 unfolding mark_kind
 returns c =
-    let past-lists : mark_kind ((c.args.b)) ≡ unlisted ((c.args.b)) = simp (sym c.among.ensures ∙ c.if-among.false, sym c.among-2.ensures ∙ c.if-among-2.false, sym c.among-3.ensures ∙ c.if-among-3.false) in
+    let past-lists : mark_kind c.args.b ≡ unlisted c.args.b = simp (sym c.among.ensures ∙ c.if-among.false, sym c.among-2.ensures ∙ c.if-among-2.false, sym c.among-3.ensures ∙ c.if-among-3.false) in
     sym (past-lists
     ∙ simp (
       ne_eqb _ _ c.if-b-eq38.false,

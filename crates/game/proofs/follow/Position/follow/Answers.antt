@@ -17,17 +17,17 @@ use Rattle.game.proofs.follow.Position.follow.Goals as goal
 
 pub returns-then-bad_alphabet : goal.returns-then-bad_alphabet
 returns-then-bad_alphabet c =
-    let answers : (r : Followed) → r ≡ followed c.args.i c.args.o ((arena c.args.i c.args.o c.args.n c.args.transitions.now c.args.accepting.now 0)) c.args.system.now c.args.self c.args.x
-    → FollowedBy c.args.i c.args.o ((arena c.args.i c.args.o c.args.n c.args.transitions.now c.args.accepting.now 0)) c.args.system.now c.args.self c.args.x r = λ r e. followed_by c.args.i c.args.o ((arena c.args.i c.args.o c.args.n c.args.transitions.now c.args.accepting.now 0)) c.args.system.now c.args.self c.args.x r e in
-    answers (Refused Alphabet) (alphabet_refused c.args.i c.args.o ((arena c.args.i c.args.o c.args.n c.args.transitions.now c.args.accepting.now 0)) c.args.system.now c.args.self c.args.x
+    let answers : (r : Followed) → r ≡ followed c.args.i c.args.o (arena c.args.i c.args.o c.args.n c.args.transitions.now c.args.accepting.now 0) c.args.system.now c.args.self c.args.x
+    → FollowedBy c.args.i c.args.o (arena c.args.i c.args.o c.args.n c.args.transitions.now c.args.accepting.now 0) c.args.system.now c.args.self c.args.x r = λ r e. followed_by c.args.i c.args.o (arena c.args.i c.args.o c.args.n c.args.transitions.now c.args.accepting.now 0) c.args.system.now c.args.self c.args.x r e in
+    answers (Refused Alphabet) (alphabet_refused c.args.i c.args.o (arena c.args.i c.args.o c.args.n c.args.transitions.now c.args.accepting.now 0) c.args.system.now c.args.self c.args.x
     (sym c.bad_alphabet.ensures ∙ c.if-bad_alphabet.true))
 
 pub returns-then-bad_count : goal.returns-then-bad_count
 returns-then-bad_count c =
-    let answers : (r : Followed) → r ≡ followed c.args.i c.args.o ((arena c.args.i c.args.o c.args.n c.args.transitions.now c.args.accepting.now 0)) c.args.system.now c.args.self c.args.x
-    → FollowedBy c.args.i c.args.o ((arena c.args.i c.args.o c.args.n c.args.transitions.now c.args.accepting.now 0)) c.args.system.now c.args.self c.args.x r = λ r e. followed_by c.args.i c.args.o ((arena c.args.i c.args.o c.args.n c.args.transitions.now c.args.accepting.now 0)) c.args.system.now c.args.self c.args.x r e in
+    let answers : (r : Followed) → r ≡ followed c.args.i c.args.o (arena c.args.i c.args.o c.args.n c.args.transitions.now c.args.accepting.now 0) c.args.system.now c.args.self c.args.x
+    → FollowedBy c.args.i c.args.o (arena c.args.i c.args.o c.args.n c.args.transitions.now c.args.accepting.now 0) c.args.system.now c.args.self c.args.x r = λ r e. followed_by c.args.i c.args.o (arena c.args.i c.args.o c.args.n c.args.transitions.now c.args.accepting.now 0) c.args.system.now c.args.self c.args.x r e in
     answers (Refused GivenCount)
-    (count_refused c.args.i c.args.o ((arena c.args.i c.args.o c.args.n c.args.transitions.now c.args.accepting.now 0)) c.args.system.now c.args.self c.args.x
+    (count_refused c.args.i c.args.o (arena c.args.i c.args.o c.args.n c.args.transitions.now c.args.accepting.now 0) c.args.system.now c.args.self c.args.x
     (sym c.bad_alphabet.ensures ∙ c.if-bad_alphabet.false) (sym c.bad_count.ensures ∙ c.if-bad_count.true))
 
 pub sizes_of-sizes-requires : goal.sizes_of-sizes-requires
@@ -39,15 +39,15 @@ pub step-requires : goal.step-requires
 step-requires c =
     let alphabet-good : bad_alphabet c.args.i c.args.o ≡ false = sym c.bad_alphabet.ensures ∙ c.if-bad_alphabet.false in
     let count-good : bad_count c.args.n ≡ false = sym c.bad_count.ensures ∙ c.if-bad_count.false in
-    subst (λ (z : Sizes). InRange z) (sym c.sizes_of-sizes.ensures) (in_range c.args.n c.args.i c.args.o (alphabet-good) (count-good))
+    subst (λ (z : Sizes). InRange z) (sym c.sizes_of-sizes.ensures) (in_range c.args.n c.args.i c.args.o alphabet-good count-good)
 
 pub returns : goal.returns
 returns c =
-    let answers : (r : Followed) → r ≡ followed c.args.i c.args.o ((arena c.args.i c.args.o c.args.n c.args.transitions.now c.args.accepting.now 0)) c.args.system.now c.args.self c.args.x
-    → FollowedBy c.args.i c.args.o ((arena c.args.i c.args.o c.args.n c.args.transitions.now c.args.accepting.now 0)) c.args.system.now c.args.self c.args.x r = λ r e. followed_by c.args.i c.args.o ((arena c.args.i c.args.o c.args.n c.args.transitions.now c.args.accepting.now 0)) c.args.system.now c.args.self c.args.x r e in
+    let answers : (r : Followed) → r ≡ followed c.args.i c.args.o (arena c.args.i c.args.o c.args.n c.args.transitions.now c.args.accepting.now 0) c.args.system.now c.args.self c.args.x
+    → FollowedBy c.args.i c.args.o (arena c.args.i c.args.o c.args.n c.args.transitions.now c.args.accepting.now 0) c.args.system.now c.args.self c.args.x r = λ r e. followed_by c.args.i c.args.o (arena c.args.i c.args.o c.args.n c.args.transitions.now c.args.accepting.now 0) c.args.system.now c.args.self c.args.x r e in
     let alphabet-good : bad_alphabet c.args.i c.args.o ≡ false = sym c.bad_alphabet.ensures ∙ c.if-bad_alphabet.false in
     let count-good : bad_count c.args.n ≡ false = sym c.bad_count.ensures ∙ c.if-bad_count.false in
     answers c.step.result
-    (followed_later c.args.i c.args.o ((arena c.args.i c.args.o c.args.n c.args.transitions.now c.args.accepting.now 0)) c.args.system.now c.args.self c.args.x (alphabet-good) (count-good) c.step.result
+    (followed_later c.args.i c.args.o (arena c.args.i c.args.o c.args.n c.args.transitions.now c.args.accepting.now 0) c.args.system.now c.args.self c.args.x alphabet-good count-good c.step.result
     (subst (λ (z : Sizes). c.step.result ≡ later_followed (arena_at z c.args.transitions.now c.args.accepting.now 0) c.args.system.now c.args.self c.args.x)
     c.sizes_of-sizes.ensures c.step.ensures))

@@ -60,20 +60,20 @@ bounds-transitions-at c =
     c.args.self.state c.args.x c.wide-y.result = at_facts c.args.sizes.states c.args.sizes.inputs c.args.sizes.outputs c.args.self.state c.args.x c.wide-y.result
     c.requires.in_range.states_fit c.requires.in_range.inputs_fit c.requires.in_range.outputs_fit c.requires.state_lt_states.0 c.requires.state_lt_states.1
     (subst (λ (v : ℕ). v < c.args.sizes.outputs) (sym c.wide-y.ensures) c.requires.state_lt_states.2) in
-    omega (arith, transitions_long ((arena_at c.args.sizes c.args.transitions.now c.args.accepting.now 0)) c.requires.accepting_value, (facts).below)
+    omega (arith, transitions_long (arena_at c.args.sizes c.args.transitions.now c.args.accepting.now 0) c.requires.accepting_value, (facts).below)
 
 pub returns-then-sizes-t : goal.returns-then-sizes-t
 unfolding next
 returns-then-sizes-t c =
-    move_leads_out ((arena_at c.args.sizes c.args.transitions.now c.args.accepting.now 0)) c.args.self c.args.x c.args.b c.wide-y.result c.wide-t.result c.wide-y.ensures c.wide-t.ensures c.if-sizes-t.true
+    move_leads_out (arena_at c.args.sizes c.args.transitions.now c.args.accepting.now 0) c.args.self c.args.x c.args.b c.wide-y.result c.wide-t.result c.wide-y.ensures c.wide-t.ensures c.if-sizes-t.true
 
 pub bounds-accepting-t : goal.bounds-accepting-t
 unfolding next
 bounds-accepting-t c =
-    omega (arith, accepting_long ((arena_at c.args.sizes c.args.transitions.now c.args.accepting.now 0)) c.requires.accepting_value, c.if-sizes-t.false)
+    omega (arith, accepting_long (arena_at c.args.sizes c.args.transitions.now c.args.accepting.now 0) c.requires.accepting_value, c.if-sizes-t.false)
 
 pub returns : goal.returns
 unfolding next
 returns c =
-    move_leads_in ((arena_at c.args.sizes c.args.transitions.now c.args.accepting.now 0)) c.args.self c.args.x c.args.b c.wide-y.result c.wide-t.result c.wide-y.ensures c.wide-t.ensures c.if-sizes-t.false
+    move_leads_in (arena_at c.args.sizes c.args.transitions.now c.args.accepting.now 0) c.args.self c.args.x c.args.b c.wide-y.result c.wide-t.result c.wide-y.ensures c.wide-t.ensures c.if-sizes-t.false
     c.entered-next.result c.entered-next.ensures

@@ -2,8 +2,8 @@
  * Prints the output number of each step and stops at the first goal. The rule is solved in two calls: the first lends
  * nothing and so asks how many states the rule has, and the second lends just what they need.
  *
- *   rt staticlib capi
- *   cc examples/follow.c -Iinclude target/staticlib/libcapi.a -o follow
+ *   (cd crates/capi && rt lib)
+ *   cc examples/follow.c -Iinclude crates/capi/out/libcapi.a -o follow
  *   ./follow < examples/follow.input
  */
 #include <stdio.h>

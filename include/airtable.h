@@ -1,5 +1,5 @@
 /*
- * airtable.h: the rule engine for C. Build the library with `rt staticlib capi` and link target/staticlib/libcapi.a.
+ * airtable.h: the rule engine for C. Build the library with `rt lib` in crates/capi and link crates/capi/out/libcapi.a.
  *
  * The station has i inputs, named a, b, c, d, and o outputs, named p, q, r, s; i and o are 0 to 4. In each step the
  * outside sets the inputs and the station then sets the outputs. An input number has bit 0 for a, bit 1 for b and so

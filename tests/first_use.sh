@@ -196,32 +196,34 @@ runs 'a file without end' 1 $'refused 14 0\n' 'ulimit -f 100; "$airtable" /dev/z
 # ---- builds
 
 # A project with the script, sources of long ago, and for PATH a folder with the tools that are needed and one with a fake rt. That one
-# notes its call, reads all that it is given to read, does what the file `deed` says, and builds a program that prints the version that
-# the file `version` has and how many bytes it read. A program that is the same already it leaves alone.
+# notes its call and where, reads all that it is given to read, does what the file `deed` says, and builds a program that prints the version
+# that the file `version` has and how many bytes it read. A program that is the same already it leaves alone.
 project="$room/a project"
 airtable=$project/airtable
 mkdir -p "$project/crates/airtable" "$room/tools" "$room/fake"
 cp airtable "$project"
-printf '# a: capi\nreader:\nautomaton: reader # capi\ngame: reader automaton\ncapi: game\n\nlisting: game\n\t airtable : io listing libc\n' > "$project/crates.txt"
+printf '# a: capi\nreader:\nautomaton: reader # capi\ngame: reader automaton\ncapi staticlib: game\n\nlisting: game\n\t airtable status=0 : std listing\n' > "$project/crates.txt"
 for crate in reader automaton game listing airtable capi; do
     mkdir -p "$project/crates/$crate"/{src,specs,proofs/main,must-fail}
     touch "$project/crates/$crate"/{src/lib.rt,specs/Spec.antt,proofs/main/Proof.antt,must-fail/one.edit}
 done
 touch "$project/crates/airtable/stdin" "$project/crates/airtable/stdout"
 find "$project" -exec touch -t 202001010000 {} +
-for tool in awk bash cat chmod cmp cp date dd env find mkdir mktemp mv od readlink rm sh sleep tail tee touch tr wc; do
+for tool in awk bash cat chmod cmp cp dd env find mkdir mktemp mv od readlink rm sh sleep sort tail tee touch tr wc; do
     ln -s "$(command -v "$tool")" "$room/tools/$tool"
 done
 cat > "$room/fake/rt" << 'END'
 #!/usr/bin/env bash
-echo "$*" >> "$fake/calls"
+echo "${PWD##*/}: $*" >> "$fake/calls"
 cat > /dev/null
+cd ../..
 . "$fake/deed"
-mkdir -p target/bin
-printf '#!/bin/sh\nprintf "can 1 1\\n0 * S %s %%s\\n" $(wc -c)\n' "$(cat "$fake/version")" > target/new
-chmod +x target/new
-cmp -s target/new target/bin/airtable || cp target/new target/bin/airtable
-echo "rt: reader proved (1 s)"
+mkdir -p crates/{reader,airtable}/out
+new=crates/airtable/out/new
+printf '#!/bin/sh\nprintf "can 1 1\\n0 * S %s %%s\\n" $(wc -c)\n' "$(cat "$fake/version")" > $new
+chmod +x $new
+cmp -s $new crates/airtable/out/airtable || cp $new crates/airtable/out/airtable
+printf 'crate reader: modules loaded=1 checked=2\nlogic=proved functions=1\n' >&2
 END
 chmod +x "$room/fake/rt"
 chmod -R a+rX "$project" "$room/fake" "$room/tools"
@@ -244,14 +246,14 @@ builds() { # COUNT
     local calls=0
     [ ! -e "$fake/calls" ] || calls=$(wc -l < "$fake/calls")
     [ "$calls" -eq "$1" ] || wrong "rt was called $calls times, not $1"
-    [ "$calls" -eq 0 ] || [ "$(sort -u "$fake/calls")" = 'check airtable' ] || wrong "rt was not called with 'check airtable'"
+    [ "$calls" -eq 0 ] || [ "$(sort -u "$fake/calls")" = 'airtable: run' ] || wrong "rt was not called with 'run' in crates/airtable"
     rm -f "$fake/calls"
 }
 
 # The first run of a version: built, and said so.
 is_built() { # NAME VERSION
     version "$2"
-    runs "$1" 0 $'can 1 1\n0 * S '"$2 5"$'\n' "$with_rt$five" 'proving and building' 'rt: reader proved (1 s)'
+    runs "$1" 0 $'can 1 1\n0 * S '"$2 5"$'\n' "$with_rt$five" 'proving and building' 'airtable: reader is proved'
     builds 1
 }
 
@@ -313,15 +315,29 @@ touch -t 202001010000 "$project/target/bin/airtable"
 is_fresh 'a program with an old time' 23
 rm "$project/target/bin/airtable"
 is_built 'a program that is gone' 24
+sleep 0.05
+touch "$project/crates/airtable/args"
+is_built 'a new file beside src' 25
+sleep 0.05
+rm "$project/crates/airtable/args"
+is_built 'a file beside src that is gone' 26
+is_fresh 'after that' 26
+
+# What rt builds is no source, and `rt ci` takes it away for a time.
+for deed in 'touch reader/out/new' 'mkdir game/out' 'mv reader/out ../aside' 'rm airtable/out/airtable' 'rm -r airtable/out' 'mv ../aside reader/out'; do
+    sleep 0.05
+    (cd "$project/crates" && eval "$deed")
+    is_fresh "$deed" 26
+done
 
 echo 'sleep 0.05; touch crates/game/src/lib.rt' > "$fake/deed"
 later "$project/crates.txt"
-is_built 'a change during a build' 25
+is_built 'a change during a build' 27
 : > "$fake/deed"
-is_built 'after a change during a build' 26
-is_fresh 'after that' 26
+is_built 'after a change during a build' 28
+is_fresh 'after that' 28
 
-echo 'echo "game: error: this is why"; echo "rt: FAILED: game" >&2; exit 1' > "$fake/deed"
+echo 'echo "game: error: this is why" >&2; echo "rt: FAILED: game" >&2; exit 1' > "$fake/deed"
 cp -p "$project/crates/game/src/lib.rt" "$room/good.rt"
 later "$project/crates/game/src/lib.rt"
 for name in 'a failed build' 'a failed build again'; do
@@ -335,11 +351,15 @@ fails 'a failed build, then no rt' "$without_rt$five" 'the Rattle toolchain (rt)
 echo 'kill -KILL $$' > "$fake/deed"
 fails 'a build that is killed' "$with_rt$five" 'the build failed'
 builds 1
-echo 'rm -f target/bin/airtable; exit 0' > "$fake/deed"
-fails 'a build without a program' "$with_rt$five" 'the build left no' 'target/bin/airtable'
+echo 'rm -f crates/airtable/out/airtable; exit 0' > "$fake/deed"
+fails 'a build without a program' "$with_rt$five" 'the build left no' 'crates/airtable/out/airtable'
 builds 1
+echo 'echo refused 14 0' > "$fake/deed"
+fails 'a build of a program that prints something else' "$with_rt$five" 'did not print crates/airtable/stdout'
+builds 1
+fails 'such a program, then no rt' "$without_rt$five" 'the Rattle toolchain (rt) is not installed'
 : > "$fake/deed"
-is_built 'a mended build' 27
+is_built 'a mended build' 29
 
 mkdir "$room/links"
 ln -s "$project/airtable" "$room/links/absolute"
@@ -348,7 +368,7 @@ ln -s relative "$room/links/twice"
 ln -s "$project" "$room/links/folder"
 for link in '"$room/links/absolute"' 'cd "$room/links" && ./relative' 'cd / && "$room/links/twice"' '"$room/links/folder/airtable"' \
     'PATH=$room/links:$PATH; twice' 'cd "$room/links" && bash twice' 'CDPATH=/tmp; cd "$room" && "a project/airtable"'; do
-    runs "called by $link" 0 $'can 1 1\n0 * S 27 5\n' "$without_rt$link"' < "$room/five"'
+    runs "called by $link" 0 $'can 1 1\n0 * S 29 5\n' "$without_rt$link"' < "$room/five"'
 done
 
 # ---- programs that do not do their part

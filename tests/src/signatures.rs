@@ -102,7 +102,7 @@ struct Reader {
 
 /// Whether a name or a number can have this character.
 fn is_word(c: char) -> bool {
-    c.is_alphanumeric() || c == '_' || c == '·'
+    c.is_alphanumeric() || c == '_'
 }
 
 impl Reader {

@@ -54,18 +54,19 @@ fn every_file_is_in_its_list() {
     assert!(specs().iter().map(|folder| names(&folder.join("inner")).len()).sum::<usize>() > 10);
 }
 
-/// The files that a source uses of its own crate's believed ones.
-fn own_uses(source: &str) -> BTreeSet<String> {
-    let rest = source.split("·specs.specs.").skip(1);
+/// The files that a source of a crate uses of that crate's believed ones.
+fn own_uses(own: &str, source: &str) -> BTreeSet<String> {
+    let path = format!("Rattle.{own}.specs.");
+    let rest = source.split(&path).skip(1);
     let names = rest.map(|rest| rest.split(|c: char| !c.is_alphanumeric()).next().unwrap().to_string());
     names.filter(|name| name != "declared" && name != "inner").collect()
 }
 
-/// The first use that stands before what it uses, in a list of files with their sources.
-fn too_early<'a>(files: &[(&'a str, String)]) -> Option<(&'a str, String)> {
+/// The first use that stands before what it uses, in a list of a crate's files with their sources.
+fn too_early<'a>(own: &str, files: &[(&'a str, String)]) -> Option<(&'a str, String)> {
     let mut before = BTreeSet::new();
     for (name, source) in files {
-        if let Some(used) = own_uses(source).into_iter().find(|used| !before.contains(used)) {
+        if let Some(used) = own_uses(own, source).into_iter().find(|used| !before.contains(used)) {
             return Some((name, used));
         }
         before.insert(name.to_string());
@@ -75,15 +76,20 @@ fn too_early<'a>(files: &[(&'a str, String)]) -> Option<(&'a str, String)> {
 
 #[test]
 fn the_lists_are_in_the_order_of_reading() {
+    let mut uses = 0;
     for folder in specs() {
+        let own = folder.parent().and_then(Path::file_name).unwrap().to_str().unwrap();
         let list = fs::read_to_string(folder.join("Lib.antt")).unwrap();
         let names = list.lines().filter_map(|line| line.strip_prefix("pub mod ")).filter(|name| *name != "inner");
         let source = |name: &str| fs::read_to_string(folder.join(format!("{name}.antt"))).unwrap();
         let files: Vec<(&str, String)> = names.map(|name| (name, source(name))).collect();
-        assert_eq!(too_early(&files), None, "{}", folder.display());
+        assert_eq!(too_early(own, &files), None, "{}", folder.display());
+        uses += files.iter().map(|(_, source)| own_uses(own, source).len()).sum::<usize>();
     }
-    let wrong = [("Play", "use Rattle·plays·specs.specs.Arena.{Arena}\n".to_string()), ("Arena", String::new())];
-    assert_eq!(too_early(&wrong), Some(("Play", "Arena".to_string())));
+    assert!(uses > 50, "{uses}");
+    let wrong = [("Play", "use Rattle.plays.specs.Arena.{Arena}\n".to_string()), ("Arena", String::new())];
+    assert_eq!(too_early("plays", &wrong), Some(("Play", "Arena".to_string())));
+    assert_eq!(too_early("game", &wrong), None);
 }
 
 /// The crates by their letters in docs/PROMISES.md.
@@ -91,15 +97,14 @@ const CRATES: [(&str, &str); 5] =
     [("R", "reader"), ("M", "machine"), ("A", "automaton"), ("P", "plays"), ("G", "game")];
 
 /// The believed files that a source uses, of any crate, as crate and name.
-fn all_uses(own: &str, source: &str) -> BTreeSet<(String, String)> {
+fn all_uses(source: &str) -> BTreeSet<(String, String)> {
     let mut found = BTreeSet::new();
-    for part in source.split("Rattle·").skip(1) {
+    for part in source.split("Rattle.").skip(1) {
         let Some((name, rest)) = part.split_once('.') else { continue };
-        let (name, rest) = match name.strip_suffix("·specs") {
-            Some(name) => (name, rest.strip_prefix("specs.").unwrap()),
-            None => (name, rest.strip_prefix("specs.").unwrap_or("declared")),
-        };
-        assert!(name == own || !rest.is_empty());
+        if name == "std" {
+            continue;
+        }
+        let rest = rest.strip_prefix("specs.").unwrap();
         let file = rest.split(|c: char| !c.is_alphanumeric()).next().unwrap();
         if file != "declared" {
             found.insert((name.to_string(), file.to_string()));
@@ -123,7 +128,7 @@ fn the_guide_is_in_the_order_of_reading() {
                 names.split(", ").map(|name| name.split(" (").next().unwrap()).filter(|name| !name.starts_with('`'))
             {
                 let source = fs::read_to_string(crates.join(own).join("specs").join(format!("{name}.antt"))).unwrap();
-                let early: Vec<_> = all_uses(own, &source).difference(&before).cloned().collect();
+                let early: Vec<_> = all_uses(&source).difference(&before).cloned().collect();
                 assert_eq!(early, [], "{own}: {name}");
                 before.insert((own.to_string(), name.to_string()));
             }
@@ -134,11 +139,11 @@ fn the_guide_is_in_the_order_of_reading() {
 
 #[test]
 fn a_use_of_an_inner_file_is_seen() {
-    let own = "-- a head\nuse Rattle·plays·specs.specs.inner.Rank.{judged}\n";
-    let other = "use Rattle·plays.specs.inner.Rank as rank\n";
-    let inline = "f = Rattle·plays.specs.inner.Rank.judged\n";
-    for source in [own, other, inline] {
+    let names = "-- a head\nuse Rattle.plays.specs.inner.Rank.{judged}\n";
+    let whole = "use Rattle.plays.specs.inner.Rank as rank\n";
+    let inline = "f = Rattle.plays.specs.inner.Rank.judged\n";
+    for source in [names, whole, inline] {
         assert_eq!(inner_uses(source).len(), 1, "{source}");
     }
-    assert!(inner_uses("-- see specs.inner.Rank\nuse Rattle·plays.specs.Arena.{Arena}\n").is_empty());
+    assert!(inner_uses("-- see specs.inner.Rank\nuse Rattle.plays.specs.Arena.{Arena}\n").is_empty());
 }

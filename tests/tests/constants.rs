@@ -22,10 +22,10 @@ fn long_numbers(source: &str) -> Vec<u128> {
     words.filter_map(number).filter(|&found| found > u128::from(u32::MAX)).collect()
 }
 
-/// The files of code below a folder, with the numbers of more than 32 bits in each that has some.
+/// The files of code below a folder, with the numbers of more than 32 bits in each that has some. What rt builds, in out/, is left out.
 fn files(folder: &Path, found: &mut Vec<(String, Vec<u128>)>) {
     for path in fs::read_dir(folder).unwrap().map(|entry| entry.unwrap().path()) {
-        if path.is_dir() {
+        if path.is_dir() && path.file_name().is_some_and(|name| name != "out") {
             files(&path, found);
         } else if path.extension().is_some_and(|end| end == "rt") {
             let numbers = long_numbers(&fs::read_to_string(&path).unwrap());

@@ -8,21 +8,21 @@ use solver::signatures::{files, module_path, of_crates, of_source, tokens, Claus
 use std::path::Path;
 
 /// A public function, and the promise that each of its `ensures` clauses cites, in their order. A promise is the
-/// beginning of what stands in the clause, or there after `r ≡` or `now (x .exit) ≡`: a name, and more where it says little.
+/// beginning of what stands in the clause, or there after `result ≡` or `x.new ≡`: a name, and more where it says little.
 type Row = (&'static str, &'static [&'static str]);
 
 /// A new public function gets a row here.
 const PROMISES: &[Row] = &[
-    ("reader::reading::too_long", &["tooLong"]),
+    ("reader::reading::too_long", &["too_long"]),
     ("reader::reading::check", &["ReadingOf"]),
     ("reader::reading::read", &["ReadingOf", "Written"]),
-    ("reader::refusal::text_refusal", &["afterText subject reading Nothing"]),
-    ("reader::refusal::number_of", &["numberOf"]),
-    ("reader::refusal::place_of", &["placeOf"]),
-    ("reader::refusal::needed_of", &["neededOf"]),
-    ("automaton::alphabet::bad_alphabet", &["badAlphabet"]),
-    ("automaton::alphabet::power", &["cond (leb k (2 * nameLimit)) (2 ^ k) 0"]),
-    ("automaton::alphabet::first_over", &["firstOver"]),
+    ("reader::refusal::text_refusal", &["after_text subject reading Nothing"]),
+    ("reader::refusal::number_of", &["number_of"]),
+    ("reader::refusal::place_of", &["place_of"]),
+    ("reader::refusal::needed_of", &["needed_of"]),
+    ("automaton::alphabet::bad_alphabet", &["bad_alphabet"]),
+    ("automaton::alphabet::power", &["cond (leb k (2 * name_limit)) (2 ^ k) 0"]),
+    ("automaton::alphabet::first_over", &["first_over"]),
     ("automaton::bytes::wide", &["b"]),
     ("automaton::construct::construct", &["Constructed"]),
     ("automaton::condition::read_condition", &["Conditioned"]),
@@ -88,21 +88,13 @@ fn is_trivial(tokens: &[String]) -> bool {
 
 /// What is wrong with a clause that has to cite this promise.
 fn clause_fault(function: &Function, clause: &Clause, promise: &str) -> Option<String> {
-    let [lambda, result, dot, body @ ..] = &level(&clause.tokens)[..] else {
-        return Some("is not of the form λ r. ⌜ .. ⌝".into());
-    };
-    let framed = lambda == "λ" && dot == "." && body.len() == 1 && body[0].starts_with('⌜');
-    if !framed || function.parameters.iter().any(|parameter| parameter.name == *result) {
-        return Some("is not of the form λ r. ⌜ .. ⌝ with a new r".into());
+    if function.parameters.iter().any(|parameter| parameter.name == "result") {
+        return Some("has a parameter in the place of the result".into());
     }
-    let body = &clause.tokens[4..clause.tokens.len() - 1];
+    let body = &clause.tokens[..];
     let stated = match body {
-        [first, equals, stated @ ..] if first == result && equals == "≡" => stated,
-        [now, open, _, dot, exit, close, equals, stated @ ..]
-            if [now, open, dot, exit, close, equals] == ["now", "(", ".", "exit", ")", "≡"] =>
-        {
-            stated
-        }
+        [result, equals, stated @ ..] if [result, equals] == ["result", "≡"] => stated,
+        [_, dot, new, equals, stated @ ..] if [dot, new, equals] == [".", "new", "≡"] => stated,
         _ => body,
     };
     if !stated.starts_with(&tokens(promise)) {
@@ -113,7 +105,7 @@ fn clause_fault(function: &Function, clause: &Clause, promise: &str) -> Option<S
     if let Some(part) = level(stated).iter().find(|&part| !plain(part)) {
         return Some(format!("states more or less than {promise}: {part}"));
     }
-    if (result == "_" || !body.contains(result)) && !has(body, &[".", "exit"]) {
+    if !has(body, &["result"]) && !has(body, &[".", "new"]) {
         return Some("names neither the result nor what is written".into());
     }
     is_trivial(body).then(|| "holds of everything: X ≡ X".into())
@@ -128,16 +120,15 @@ fn contract_faults(function: &Function, promises: &[&str]) -> Vec<String> {
     }
     let clauses = ensures.iter().zip(promises);
     faults.extend(clauses.filter_map(|(clause, promise)| clause_fault(function, clause, promise)));
-    let named = |part: &[&str]| ensures.iter().any(|clause| has(&clause.tokens[3.min(clause.tokens.len())..], part));
-    let results: Vec<_> = ensures.iter().filter_map(|clause| clause.tokens.get(1)).collect();
-    if !function.returns.is_empty() && !results.iter().any(|result| *result != "_" && named(&[result])) {
+    let named = |part: &[&str]| ensures.iter().any(|clause| has(&clause.tokens, part));
+    if !function.returns.is_empty() && !named(&["result"]) {
         faults.push("says nothing of its result".into());
     }
     for parameter in &function.parameters {
         let name = parameter.name.as_str();
         let known = match &parameter.kind {
-            kind if kind.starts_with("&mut ") => named(&[name, ".", "exit"]),
-            kind if kind.starts_with('&') => named(&[name, ".", "entry"]),
+            kind if kind.starts_with("&mut ") => named(&[name, ".", "new"]),
+            kind if kind.starts_with('&') => named(&[name, ".", "now"]),
             _ => named(&[name]),
         };
         if !known {
@@ -185,14 +176,14 @@ const F: &[Row] = &[("m::f", &["P"])];
 #[test]
 fn good_contracts_pass() {
     let sources = [
-        "pub fn f(x: u8) -> u8\n    ensures { λ r. ⌜ P x r ⌝ }\n{\n    x\n}\n",
-        "pub fn f(x: u8) -> u8 ensures { λ r. ⌜ P x r ⌝ } { x }",
-        "pub fn f(x: u8) -> u8 ensures whole { λ r. ⌜ r ≡ P x ⌝ } { if x == b'{' { 1 } else { 0 } }",
+        "pub fn f(x: u8) -> u8\n    ensures { P x result }\n{\n    x\n}\n",
+        "pub fn f(x: u8) -> u8 ensures { P x result } { x }",
+        "pub fn f(x: u8) -> u8 ensures whole { result ≡ P x } { if x == b'{' { 1 } else { 0 } }",
         "// pub fn g() {}\npub extern \"C\" fn f(\n    x: &[u8],\n    y: &mut usize,\n) -> u8\n    // a word\n    \
-         ensures { λ s. ⌜ P (now (x .entry)) (now (y .exit)) s ⌝ } // more\n{ 0 }",
-        "pub const fn f(x_y: u8) -> u8 ensures { λ r. ⌜ P «x_y» {- } -} r -- } requires\n ⌝ } { 0 }",
-        "pub fn f(x: &mut u8)\n    ensures { λ _. ⌜ now (x .exit) ≡ P (now (x .entry)) ⌝ }\n{\n    *x += 1;\n}\n",
-        "pub(crate) fn g() -> u8 { 1 }\nfn h(x: u8) -> u8 requires { ⌜ x ≡ x ⌝ } { x }\npub fn f() -> u8 ensures { λ r. ⌜ P r ⌝ } { 0 }",
+         ensures { P x.now y.new result } // more\n{ 0 }",
+        "pub const fn f(x_y: u8) -> u8 ensures { P «x_y» {- } -} result -- } requires\n } { 0 }",
+        "pub fn f(x: &mut u8)\n    ensures { x.new ≡ P x.old }\n{\n    *x += 1;\n}\n",
+        "pub(crate) fn g() -> u8 { 1 }\nfn h(x: u8) -> u8 requires { x ≡ x } { x }\npub fn f() -> u8 ensures { P result } { 0 }",
     ];
     for source in sources {
         assert_eq!(seen(source, F), Vec::<String>::new(), "{source}");
@@ -205,11 +196,11 @@ fn functions_without_a_contract_are_seen() {
         "pub fn f(x: u8) -> u8 {\n    x\n}\n",
         "pub fn f(x: u8) -> u8\n{\n    x\n}\n",
         "pub fn f(\n    x: u8,\n) -> u8 {\n    x\n}\n",
-        "pub fn f(x: u8) -> u8 { x }\nfn g(x: u8) -> u8\n    ensures { λ r. ⌜ P x r ⌝ }\n{ x }",
-        "pub fn f(x: u8) -> u8 // ensures { λ r. ⌜ P x r ⌝ }\n{\n    x\n}\n",
-        "pub fn f(x: u8) -> u8 /* ensures { λ r. ⌜ P x r ⌝ } */ {\n    x\n}\n",
-        "pub fn f(x: u8) -> u8 {\n    // ensures { λ r. ⌜ P x r ⌝ }\n    x\n}\n",
-        "pub fn f(x: u8) -> u8 {\n    let ensures = \"ensures { λ r. ⌜ P x r ⌝ }\";\n    x\n}\n",
+        "pub fn f(x: u8) -> u8 { x }\nfn g(x: u8) -> u8\n    ensures { P x result }\n{ x }",
+        "pub fn f(x: u8) -> u8 // ensures { P x result }\n{\n    x\n}\n",
+        "pub fn f(x: u8) -> u8 /* ensures { P x result } */ {\n    x\n}\n",
+        "pub fn f(x: u8) -> u8 {\n    // ensures { P x result }\n    x\n}\n",
+        "pub fn f(x: u8) -> u8 {\n    let ensures = \"ensures { P x result }\";\n    x\n}\n",
         "pub extern \"C\" fn f(x: u8) -> u8 {\n    x\n}\n",
         "pub\nfn\nf(x: u8) -> u8 {\n    x\n}\n",
     ];
@@ -228,59 +219,61 @@ fn functions_without_a_contract_are_seen() {
 #[test]
 fn contracts_that_say_too_little_are_seen() {
     let clauses = [
-        ("r ≡ r", "does not state P"),
-        ("Q x r", "does not state P"),
+        ("result ≡ result", "does not state P"),
+        ("Q x result", "does not state P"),
         ("x ≡ P x", "does not state P"),
-        ("r ≡ Q (P x)", "does not state P"),
-        ("Prefix x r", "does not state P"),
-        ("Q x r {- P x r -}", "does not state P"),
+        ("result ≡ Q (P x)", "does not state P"),
+        ("Prefix x result", "does not state P"),
+        ("Q x result {- P x result -}", "does not state P"),
         ("P x x", "neither the result"),
-        ("P x (r ≡ r)", "X ≡ X"),
-        ("P x (f r ≡ f r)", "X ≡ X"),
-        ("P x r ⊎ ⊤", "states more or less"),
-        ("P x r → P x r", "states more or less"),
-        ("P x r × (x ≡ x)", "states more or less"),
-        ("⊥ → P x r", "does not state P"),
-        ("(P x r)", "does not state P"),
-        ("P r", "says nothing of `x`"),
+        ("P x (result ≡ result)", "X ≡ X"),
+        ("P x (f result ≡ f result)", "X ≡ X"),
+        ("P x result ⊎ ⊤", "states more or less"),
+        ("P x result → P x result", "states more or less"),
+        ("P x result × (x ≡ x)", "states more or less"),
+        ("P x result ∨ (x ≡ x)", "states more or less"),
+        ("⊥ → P x result", "does not state P"),
+        ("(P x result)", "does not state P"),
+        ("⌜ P x result ⌝", "does not state P"),
+        ("λ x. P x x", "does not state P"),
+        ("λ r. P x r", "does not state P"),
+        ("", "does not state P"),
+        ("P result", "says nothing of `x`"),
     ];
     for (clause, fault) in clauses {
-        let source = format!("pub fn f(x: u8) -> u8\n    ensures {{ λ r. ⌜ {clause} ⌝ }}\n{{ x }}\n");
+        let source = format!("pub fn f(x: u8) -> u8\n    ensures {{ {clause} }}\n{{ x }}\n");
         let faults = seen(&source, F);
         assert!(faults.iter().any(|found| found.contains(fault)), "{clause}: {faults:?}");
     }
-    let whole = ["⌜ P x r ⌝", "λ x. ⌜ P x x ⌝", "λ r. ⌜ P x r ⌝ ∨ ⌜ x ≡ x ⌝", "λ r. P x r", ""];
-    for clause in whole {
-        let source = format!("pub fn f(x: u8) -> u8 ensures {{ {clause} }} {{ x }}\n");
-        assert!(seen(&source, F).iter().any(|fault| fault.contains("not of the form")), "{clause}");
-    }
-    let written = "pub fn f(x: &mut u8) -> u8 ensures { λ r. ⌜ P (now (x .entry)) r ⌝ } { 0 }";
+    let hidden = "pub fn f(result: u8) -> u8 ensures { P result } { result }";
+    assert_eq!(seen(hidden, F), ["m::f: has a parameter in the place of the result"]);
+    let written = "pub fn f(x: &mut u8) -> u8 ensures { P x.old result } { 0 }";
     assert_eq!(seen(written, F), ["m::f: says nothing of `x`"]);
-    let read = "pub fn f(x: &[u8]) -> u8 ensures { λ r. ⌜ P x r ⌝ } { 0 }";
+    let read = "pub fn f(x: &[u8]) -> u8 ensures { P x result } { 0 }";
     assert_eq!(seen(read, F), ["m::f: says nothing of `x`"]);
-    let unnamed = "pub fn f(x: u8) -> u8 ensures { λ _. ⌜ P x _ ⌝ } { x }";
+    let unnamed = "pub fn f(x: u8) -> u8 ensures { P x _ } { x }";
     assert_eq!(
         seen(unnamed, F),
         ["m::f: names neither the result nor what is written", "m::f: says nothing of its result"]
     );
-    let silent = "pub fn f(x: &mut u8) -> u8 ensures { λ r. ⌜ P (now (x .exit)) ⌝ } { 0 }";
+    let silent = "pub fn f(x: &mut u8) -> u8 ensures { P x.new } { 0 }";
     assert_eq!(seen(silent, F), ["m::f: says nothing of its result"]);
 }
 
 #[test]
 fn requires_and_missing_rows_are_seen() {
-    let asks = "pub fn f(x: u8) -> u8 requires { ⌜ x ≡ 0 ⌝ }\n    ensures { λ r. ⌜ P x r ⌝ }\n{ x }\n";
+    let asks = "pub fn f(x: u8) -> u8 requires { x ≡ 0 }\n    ensures { P x result }\n{ x }\n";
     assert_eq!(seen(asks, F), ["m::f: has a `requires`"]);
-    let asks_later = "pub fn f(x: u8) -> u8\n    ensures { λ r. ⌜ P x r ⌝ }\n    requires small { ⌜ x ≡ 0 ⌝ }\n{ x }\n";
+    let asks_later = "pub fn f(x: u8) -> u8\n    ensures { P x result }\n    requires small { x ≡ 0 }\n{ x }\n";
     assert_eq!(seen(asks_later, F), ["m::f: has a `requires`"]);
-    let good = "pub fn f(x: u8) -> u8 ensures { λ r. ⌜ P x r ⌝ } { x }\n";
+    let good = "pub fn f(x: u8) -> u8 ensures { P x result } { x }\n";
     assert_eq!(seen(good, &[]), ["m::f: no row has it"]);
     assert_eq!(seen(good, &[("m::f", &["P"]), ("m::g", &["P"])]), ["m::g: not one function"]);
     assert_eq!(seen(&good.repeat(2), F), ["m::f: not one function"]);
     assert_eq!(seen(good, &[("m::f", &["P", "Q"])]), ["m::f: has 1 `ensures`, and the row 2 promises"]);
     assert!(seen(good, &[("m::f", &[])]).contains(&"m::f: no promise".to_string()));
-    assert_eq!(seen(good, &[("m::f", &["P x r"])]), Vec::<String>::new());
-    assert_eq!(seen(good, &[("m::f", &["P r"])]), ["m::f: does not state P r"]);
+    assert_eq!(seen(good, &[("m::f", &["P x result"])]), Vec::<String>::new());
+    assert_eq!(seen(good, &[("m::f", &["P result"])]), ["m::f: does not state P result"]);
 }
 
 #[test]

@@ -137,9 +137,9 @@ fn in_capitals(name: &str) -> String {
     letters.collect::<String>().to_uppercase()
 }
 
-/// The cases of `numberOf` with their numbers, by their names in C.
+/// The cases of `number_of` with their numbers, by their names in C.
 fn numbers(definitions: &str) -> BTreeSet<(String, usize)> {
-    let equations = definitions.lines().filter_map(|line| line.strip_prefix("numberOf ")?.split_once(" = "));
+    let equations = definitions.lines().filter_map(|line| line.strip_prefix("number_of ")?.split_once(" = "));
     let case = |pattern: &str| pattern.trim_matches(['(', ')']).split(' ').next().unwrap().to_string();
     let named = |name: &str| match name {
         "Nothing" => "AIRTABLE_SERVED".to_string(),

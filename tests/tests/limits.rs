@@ -9,21 +9,21 @@ type Row = (&'static str, &'static str, &'static str);
 
 /// The numbers below that are limits, or follow from one, and where they stand.
 const LIMITS: &[Row] = &[
-    ("128", "automaton/specs/Limits.antt", "stateLimit"),
+    ("128", "automaton/specs/Limits.antt", "state_limit"),
     ("128", "automaton/src/limits.rt", "STATE_LIMIT"),
-    ("2048", "listing/specs/Input.antt", "inputLimit"),
+    ("2048", "listing/specs/Input.antt", "input_limit"),
     ("2048", "listing/src/limits.rt", "INPUT_LIMIT"),
-    ("255", "game/specs/Tables.antt", "noMove"),
+    ("255", "game/specs/Tables.antt", "no_move"),
     ("255", "game/src/limits.rt", "NO_MOVE"),
-    ("255", "reader/specs/Limits.antt", "textLimit"),
+    ("255", "reader/specs/Limits.antt", "text_limit"),
     ("255", "reader/src/limits.rt", "TEXT_LIMIT"),
-    ("256", "reader/specs/inner/Nodes.antt", "fieldSize"),
+    ("256", "reader/specs/inner/Nodes.antt", "field_size"),
     ("256", "reader/src/limits.rt", "FIELD_SIZE"),
-    ("64", "automaton/specs/inner/Sizes.antt", "wordBits"),
+    ("64", "automaton/specs/inner/Sizes.antt", "word_bits"),
     ("64", "automaton/src/bits.rt", "WORD_BITS"),
-    ("64", "reader/specs/Limits.antt", "nodeLimit"),
+    ("64", "reader/specs/Limits.antt", "node_limit"),
     ("64", "reader/src/limits.rt", "NODE_LIMIT"),
-    ("8192", "listing/specs/Promise.antt", "outputSize"),
+    ("8192", "listing/specs/Promise.antt", "output_size"),
     ("8192", "listing/src/limits.rt", "OUTPUT_SIZE"),
 ];
 
@@ -88,6 +88,6 @@ fn each_limit_stands_once() {
 fn a_literal_is_seen() {
     assert_eq!(named("    if 128 < n { // 64\n"), [("128", "if")]);
     assert_eq!(named("pub const STATE_LIMIT: usize = 128;\n"), [("128", "STATE_LIMIT")]);
-    assert_eq!(named("stateLimit = 128 -- and 64\n"), [("128", "stateLimit")]);
-    assert!(named("    requires { ⌜ depth < 2 ^ 64 ⌝ }\n").is_empty());
+    assert_eq!(named("state_limit = 128 -- and 64\n"), [("128", "state_limit")]);
+    assert!(named("    requires { depth < 2 ^ 64 }\n").is_empty());
 }

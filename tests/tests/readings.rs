@@ -204,11 +204,11 @@ fn changes(line: &str) -> Vec<String> {
 
 /// What the words of a row stand for.
 const ROW: [&str; 5] = [
-    "row rule mode condition n round = decided (rowOf 1 1 rule mode condition n round)",
+    "row rule mode condition n round = decided (row_of 1 1 rule mode condition n round)",
     "unmet rule mode condition = unsatisfiable 1 1 rule mode condition",
     "LineHolds (decided r) = RowHolds r",
     "LineHolds (unsatisfiable i o rule mode condition) = Unmet i o rule condition",
-    "rowOf i o rule mode condition n round = record { inputs = i; outputs = o; rule = rule; mode = mode; condition = condition; count = n; round = round }",
+    "row_of i o rule mode condition n round = record { inputs = i; outputs = o; rule = rule; mode = mode; condition = condition; count = n; round = round }",
 ];
 
 #[test]
@@ -287,7 +287,7 @@ fn the_specification_has_the_printed_example() {
 fn the_theorem_has_the_printed_example() {
     let source = specs("Example.antt");
     let text = |name| text_of(&definition(&source, name).join(" "));
-    assert_eq!((&text("exampleInput")[..], &text("exampleListing")[..]), EXAMPLE);
+    assert_eq!((&text("example_input")[..], &text("example_listing")[..]), EXAMPLE);
 }
 
 #[test]

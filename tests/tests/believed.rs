@@ -120,6 +120,7 @@ fn the_guide_is_in_the_order_of_reading() {
     let (_, guide) = guide.split_once("| What | Where |").unwrap();
     let rows = guide.lines().skip(2).map_while(|line| line.strip_prefix("| "));
     let mut before: BTreeSet<(String, String)> = BTreeSet::new();
+    let mut seen = 0;
     for files in rows.map(|row| row.split(" | ").nth(1).unwrap().trim_end_matches(" |")) {
         for part in files.split("; ") {
             let (letter, names) = part.split_once(' ').unwrap();
@@ -128,13 +129,16 @@ fn the_guide_is_in_the_order_of_reading() {
                 names.split(", ").map(|name| name.split(" (").next().unwrap()).filter(|name| !name.starts_with('`'))
             {
                 let source = fs::read_to_string(crates.join(own).join("specs").join(format!("{name}.antt"))).unwrap();
-                let early: Vec<_> = all_uses(&source).difference(&before).cloned().collect();
+                let uses = all_uses(&source);
+                seen += uses.len();
+                let early: Vec<_> = uses.difference(&before).cloned().collect();
                 assert_eq!(early, [], "{own}: {name}");
                 before.insert((own.to_string(), name.to_string()));
             }
         }
     }
     assert!(before.len() > 25, "{}", before.len());
+    assert!(seen > 50, "{seen}");
 }
 
 #[test]

@@ -1,5 +1,5 @@
 -- The bytes of the two tables (specification, "Tables"): each is the lowest output, or input, that serves on its state. What serves is said by the states'
--- numbers (Number.antt), so the arena and the mode determine every byte (proofs/EntryLaws.antt, one-system and one-environment).
+-- numbers (Number.antt), so the arena and the mode determine every byte (proofs/EntryLaws.antt, one_system and one_environment).
 -- Assumes nothing.
 use Rattle.std.specs.Prelude.{ℕ, ◌<◌, ◌≤◌, ◌≡◌, true, false, ◌⊎◌}
 use Rattle.plays.specs.declared.mode.Mode.{Mode}

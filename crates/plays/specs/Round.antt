@@ -26,7 +26,7 @@ pub record Counterplay (G : Arena) (Done A : List Step → Type 0) (ω : SystemW
   pub undone : Done play → ⊥
 
 -- r is the smallest number k, from 1 up, such that some way does with A k, and 0 where there is none. Against every way there is a counterplay with every
--- smaller number, and with every number at all where r is 0. No other number is (proofs/RoundLaws.antt, one-smallest)
+-- smaller number, and with every number at all where r is 0. No other number is (proofs/RoundLaws.antt, one_smallest)
 pub record Smallest (G : Arena) (Done : List Step → Type 0) (A : ℕ → List Step → Type 0) (r : ℕ) : Type 0 where
   pub some : 0 < r → (ω : SystemWay) × Outputs G ω × Does G Done (A r) ω
   pub smallest : (k : ℕ) → 0 < k → (0 < r → k < r) → (ω : SystemWay) → Outputs G ω → Counterplay G Done (A k) ω

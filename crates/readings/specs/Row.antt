@@ -1,7 +1,7 @@
 -- What a row of the specification's "Readings" says: on i, o, the text of a rule, a mode and the text of a condition, the verdict, n and the round number; or that
 -- no input meets the condition, so that the call is refused by 15.
 -- It is said of the texts themselves and by the definitions: the grammar's formulas, the number of reachable states, and the plays on the formula's automaton.
--- Each text has one formula (reader, proofs/Unambiguous: one-formula) and no rule has two round numbers (plays, proofs/RoundLaws: one-round), so that one
+-- Each text has one formula (reader, proofs/Unambiguous: one_formula) and no rule has two round numbers (plays, proofs/RoundLaws: one_round), so that one
 -- excludes every other, and "can" excludes "cannot". The rows are checked together, as one theorem (specs/Rows.antt, proofs/Readings.antt).
 -- Assumes nothing.
 use Rattle.std.specs.Prelude.{ℕ, ◌^◌, ◌<◌, ◌≤◌, ◌≡◌, false, ◌||◌, List, [], ◌∷◌}

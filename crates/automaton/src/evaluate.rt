@@ -39,6 +39,7 @@ fn name_word(letter: u64, argument: usize) -> u64
 }
 
 // A node's value for each valuation, from its operands'.
+#[tactic(auto, unfolding(crate::specs::inner::Evaluation::node_word))]
 fn node_word(kind: usize, argument: usize, letter: u64, left: u64, right: u64) -> u64
     ensures { result ≡ node_word kind argument letter left right }
 {
@@ -60,6 +61,7 @@ fn node_word(kind: usize, argument: usize, letter: u64, left: u64, right: u64) -
 }
 
 // Each node's value for each valuation, given the letter.
+#[tactic(auto, unfolding(crate::specs::inner::Evaluation::Evaluated))]
 pub(crate) fn evaluate(nodes: &[usize; NODE_LIMIT], count: usize, letter: u64) -> [u64; NODE_LIMIT]
     requires { count ≤ node_limit }
     ensures { Evaluated nodes.now letter result count }

@@ -19,6 +19,7 @@ fn letter_of(b: u8) -> u64
 }
 
 // Coordinate 0 of the valuation that the letters make from the end valuation, the last letter first.
+#[tactic(auto, unfolding(crate::specs::inner::Fold::valuation))]
 pub(crate) fn satisfied(
     nodes: &[usize; NODE_LIMIT],
     count: usize,

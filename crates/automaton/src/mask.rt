@@ -16,6 +16,7 @@ use reader::limits::NODE_LIMIT;
 const MASKS: u64 = 1 << NUMBER_LIMIT;
 
 // The mask: bit x says whether input number x, below `inputs`, has the condition.
+#[tactic(auto, unfolding(crate::specs::Bits::of_bits))]
 pub(crate) fn condition_mask(nodes: &[usize; NODE_LIMIT], count: usize, inputs: usize) -> u16
     requires { (count ≤ node_limit) × (inputs ≤ number_limit) }
     ensures { (κ : Formula) → Represents nodes.now count κ → result ≡ of_bits (λ x. value κ 1 x 0) inputs }

@@ -51,6 +51,7 @@ pub(crate) fn operator_nodes(nodes: &[usize; NODE_LIMIT], count: usize) -> [usiz
 }
 
 // The number of the temporal operators.
+#[tactic(auto, unfolding(crate::specs::inner::Coordinates::operators_in))]
 pub(crate) fn operator_count(nodes: &[usize; NODE_LIMIT], count: usize) -> u64
     requires { count ≤ node_limit }
     ensures exact { (φ : Formula) → Represents nodes.now count φ → result ≡ operators φ }

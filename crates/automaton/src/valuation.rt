@@ -22,6 +22,7 @@ fn node_at(nodes: &[usize], k: usize) -> usize
 }
 
 // The node whose value is the coordinate of the operator at o: of X and N the operand.
+#[tactic(auto, unfolding(crate::specs::inner::Coordinates::owner_of))]
 fn owner_of(kind: usize, o: usize) -> usize
     ensures { result ≡ owner_of kind o }
 {
@@ -35,6 +36,7 @@ fn owner_of(kind: usize, o: usize) -> usize
 }
 
 // The node whose value is coordinate j.
+#[tactic(auto, unfolding(crate::specs::inner::Coordinates::owner))]
 fn owner_node(nodes: &[usize], places: &[usize], count: usize, j: usize) -> usize
     ensures { result ≡ owner nodes.now places.now count j }
 {
@@ -79,6 +81,7 @@ pub(crate) fn letter_words(
 }
 
 // The valuation that the coordinates' words make from v: its bit j is bit v of word j.
+#[tactic(auto, unfolding(crate::specs::Bits::of_bits))]
 pub(crate) fn vector_from(words: &[u64; COORDINATE_LIMIT], width: u64, v: u64) -> u64
     requires { (width ≤ coordinate_limit) × (v < vector_limit) }
     ensures exact { result ≡ of_bits (λ j. bit (get_or words.now j 0) v) width }
@@ -129,6 +132,7 @@ fn end_of(kind: usize) -> u64
 }
 
 // Coordinate j's bit of the end valuation.
+#[tactic(auto, unfolding(crate::specs::inner::Coordinates::end_bit))]
 fn end_bit(nodes: &[usize], places: &[usize], j: usize) -> u64
     ensures { result ≡ one (end_bit nodes.now places.now j) }
 {
@@ -139,6 +143,7 @@ fn end_bit(nodes: &[usize], places: &[usize], j: usize) -> u64
 }
 
 // The end valuation, from the operators' nodes.
+#[tactic(auto, unfolding(crate::specs::Bits::of_bits))]
 fn end_word(nodes: &[usize], places: &[usize], width: u64) -> u64
     requires { width ≤ coordinate_limit }
     ensures { result ≡ of_bits (end_bit nodes.now places.now) width }

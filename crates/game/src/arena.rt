@@ -25,6 +25,7 @@ pub struct Game {
 }
 
 // Whether input x has the condition.
+#[tactic(auto, unfolding(automaton::specs::Bits::bit))]
 pub(crate) fn has_condition(mask: u16, x: usize) -> bool
     requires { x < number_limit }
     ensures { result ≡ bit mask x }
@@ -33,6 +34,7 @@ pub(crate) fn has_condition(mask: u16, x: usize) -> bool
 }
 
 // The state that input x and output y lead to from state s.
+#[tactic(auto, unfolding(plays::specs::Arena::next))]
 pub(crate) fn enters(g: Game, transitions: &[u8], s: usize, x: usize, y: usize) -> usize
     requires closed { Closed g.states g.inputs g.outputs transitions.now }
     requires s_lt_states { (s < g.states) × (x < g.inputs) × (y < g.outputs) }

@@ -46,6 +46,7 @@ impl Position {
     }
 
     // The move by output b, which is in range.
+    #[tactic(auto, unfolding(plays::specs::Arena::next))]
     fn moved_by(
         self,
         sizes: Sizes,

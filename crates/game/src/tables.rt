@@ -118,6 +118,7 @@ fn is_safe(
 }
 
 // The system's byte for state s and input x, by ranks with a cap: NO_MOVE where s has no rank.
+#[tactic(auto, unfolding(plays::specs::Arena::holds))]
 fn system_byte(
     g: Game,
     transitions: &[u8],

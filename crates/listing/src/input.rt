@@ -99,6 +99,7 @@ pub(crate) fn mode_of(input: &[u8]) -> Mode
 }
 
 // Where the condition begins.
+#[tactic(auto, unfolding(crate::specs::inner::Scan::condition_start))]
 pub(crate) fn condition_start(input: &[u8]) -> usize
     requires { 4 ≤ length input.now }
     ensures { result ≡ condition_start input.now }

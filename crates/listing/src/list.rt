@@ -65,6 +65,7 @@ fn list_with(
 }
 
 // Writes what the program prints for an input, as far as the output has room for it, and returns how many bytes that is.
+#[tactic(auto, unfolding(crate::specs::Promise::lent))]
 pub fn list(input: &[u8], output: &mut [u8]) -> usize
     ensures { Listed input.now output.old output.new result }
 {

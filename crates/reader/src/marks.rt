@@ -31,6 +31,7 @@ fn among(b: u8, bytes: &[u8]) -> bool
 }
 
 // The kind of a byte, every name and mark being in reach.
+#[tactic(auto, unfolding(crate::specs::Marks::mark_kind))]
 pub(crate) fn mark_kind(b: u8) -> Kind
     ensures { result ≡ mark_kind b }
 {
@@ -62,6 +63,7 @@ pub(crate) fn mark_kind(b: u8) -> Kind
 }
 
 // Whether a byte is a temporal mark.
+#[tactic(auto, unfolding(crate::specs::Marks::is_temporal_mark))]
 pub(crate) fn is_temporal_mark(b: u8) -> bool
     ensures { result ≡ is_temporal_mark b }
 {
@@ -69,6 +71,7 @@ pub(crate) fn is_temporal_mark(b: u8) -> bool
 }
 
 // Whether a byte is in reach of a text with i inputs and o outputs.
+#[tactic(auto, unfolding(crate::specs::Marks::allowed_by))]
 pub(crate) fn allowed(b: u8, i: u8, o: u8, temporal: bool) -> bool
     ensures { result ≡ allowed_by i o temporal b }
 {
@@ -89,6 +92,7 @@ pub(crate) fn allowed(b: u8, i: u8, o: u8, temporal: bool) -> bool
 }
 
 // The node kind of a constant or a name.
+#[tactic(auto, unfolding(crate::specs::inner::Words::operand_code))]
 pub(crate) fn operand_kind(b: u8) -> u8
     ensures { result ≡ operand_code b }
 {
@@ -102,6 +106,7 @@ pub(crate) fn operand_kind(b: u8) -> u8
 }
 
 // The node kind of a prefix mark.
+#[tactic(auto, unfolding(crate::specs::Marks::unary_of))]
 pub(crate) fn prefix_kind(b: u8) -> u8
     ensures { result ≡ unary_code (unary_of b) }
 {
@@ -121,6 +126,7 @@ pub(crate) fn prefix_kind(b: u8) -> u8
 }
 
 // The node kind of an infix mark.
+#[tactic(auto, unfolding(crate::specs::Marks::binary_of))]
 pub(crate) fn infix_kind(b: u8) -> u8
     ensures { result ≡ binary_code (binary_of b) }
 {
@@ -140,6 +146,7 @@ pub(crate) fn infix_kind(b: u8) -> u8
 }
 
 // The argument of an operand's node: the letter bit of a name behind i inputs, the coordinate that is next for a constant.
+#[tactic(auto, unfolding(crate::specs::inner::Words::operand_argument))]
 pub(crate) fn operand_argument(b: u8, i: u8, coordinate: usize) -> usize
     requires { mark_kind b ≡ Operand }
     ensures { result ≡ operand_argument i b coordinate }

@@ -51,6 +51,7 @@ pub fn check(text: &[u8], i: u8, o: u8, temporal: bool) -> Reading
 }
 
 // Reads a text as `check` does, and writes the nodes of a good one in front of `out`.
+#[tactic(auto, unfolding(crate::specs::inner::Nodes::Written))]
 fn read_into(text: &[u8], i: u8, o: u8, temporal: bool, out: &mut [usize]) -> Reading
     requires { length out.old ≡ node_limit }
     ensures reading { ReadingOf i (kind_in i o temporal) text.now result }

@@ -52,6 +52,7 @@ fn mark_step(k: Kind, due: bool, depth: usize) -> Step
 }
 
 // The step at a byte.
+#[tactic(auto, unfolding(crate::specs::Marks::kind_in, crate::specs::inner::Scan::step_of))]
 fn advance(b: u8, i: u8, o: u8, temporal: bool, due: bool, depth: usize) -> Step
     requires { depth + 1 < 2 ^ 64 }
     ensures { result ≡ step_of (kind_in i o temporal) b due depth }

@@ -6,6 +6,7 @@ ghost use Rattle.reader.specs.inner.Counts.{tick, weight_of, count_of};
 use crate::marks::{Kind, is_temporal_mark, mark_kind};
 
 // 1 for a temporal mark, else 0.
+#[tactic(auto, unfolding(crate::specs::inner::Counts::tick))]
 fn tick_of(b: u8) -> usize
     ensures { result ≡ tick b }
 {

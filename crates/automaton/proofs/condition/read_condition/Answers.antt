@@ -1,12 +1,16 @@
 -- `automaton::condition::read_condition` meets its contract: each return is the case of the promise that the tests before it decided.
 -- Assumes nothing.
 use mathlib.Core.Path.{◌≡◌, sym, ap, ◌∙◌}
-use mathlib.Core.Bool.{false}
-use Prim.Native.Nat.{◌^◌, ◌≤◌}
+use mathlib.Core.Bool.{false, cond}
+use mathlib.Core.List.{List}
+use lib.Dec.{leb}
+use Prim.Native.Nat.{ℕ, ◌*◌, ◌^◌, ◌≤◌}
 use native.Mathlib.Omega.{arith}
 use lib.Pow.{pow_mono}
 use Rattle.reader.specs.declared.refusal.Refusal.TheVariants.{Unsatisfiable}
+use Rattle.reader.specs.Formula.{Formula}
 use Rattle.reader.specs.Limits.{too_long}
+use Rattle.automaton.specs.inner.Representation.{Represents}
 use Rattle.automaton.specs.Limits.{name_limit, number_limit}
 use Rattle.automaton.specs.Alphabet.{bad_alphabet}
 use Rattle.automaton.specs.Bits.{of_bits}
@@ -18,6 +22,18 @@ use Rattle.automaton.proofs.ReadLaws.{Represented, read_represents}
 use Rattle.automaton.proofs.ConditionLaws.{by_alphabet, by_length, by_reading, by_mask}
 use Rattle.automaton.proofs.condition.read_condition.Goals as goal
 
+-- the power is the number of input numbers
+inputs_are : (i p : ℕ) → bad_alphabet i 0 ≡ false → p ≡ cond (leb i (2 * name_limit)) (2 ^ i) 0 → p ≡ 2 ^ i
+inputs_are i p fits power = power_is i p (omega (arith, inputs_fit i 0 fits)) power
+
+-- the mask decides, once it is known to be that of the condition
+judged : (i : ℕ) (text nodes : List ℕ) (n inputs m : ℕ) → Represented i 0 false text nodes n → bad_alphabet i 0 ≡ false → too_long text ≡ false → inputs ≡ 2 ^ i
+    → ((κ : Formula) → Represents nodes n κ → m ≡ of_bits (λ x. value κ 1 x 0) inputs)
+    → (m ≡ 0 → Conditioned i text (Refused Unsatisfiable)) × ((m ≡ 0 → ⊥) → Conditioned i text (Mask m))
+unfolding mask_of
+judged i text nodes n inputs m v fits short is mask =
+    by_mask i text fits short n v.reading v.formula v.good m (mask v.formula v.represents ∙ ap (of_bits (λ x. value v.formula 1 x 0)) is)
+
 pub returns-then-bad_alphabet : goal.returns-then-bad_alphabet
 returns-then-bad_alphabet c =
     by_alphabet c.args.i c.args.text.now (sym c.bad_alphabet.ensures ∙ c.if-bad_alphabet.true)
@@ -27,57 +43,28 @@ returns-then-too_long c =
     by_length c.args.i c.args.text.now (sym c.bad_alphabet.ensures ∙ c.if-bad_alphabet.false)
     (sym c.too_long.ensures ∙ c.if-too_long.true)
 
-pub overflow_cast-i : goal.overflow_cast-i
-overflow_cast-i c =
-    let fits : bad_alphabet c.args.i 0 ≡ false = sym c.bad_alphabet.ensures ∙ c.if-bad_alphabet.false in
-    omega (arith, inputs_fit c.args.i 0 fits)
-
 pub returns-in_default : goal.returns-in_default
 returns-in_default c =
-    let fits : bad_alphabet c.args.i 0 ≡ false = sym c.bad_alphabet.ensures ∙ c.if-bad_alphabet.false in
-    let short : too_long c.args.text.now ≡ false = sym c.too_long.ensures ∙ c.if-too_long.false in
-    by_reading c.args.i c.args.text.now fits short c.read-reading.result c.read-reading.ensures.reading
+    by_reading c.args.i c.args.text.now (sym c.bad_alphabet.ensures ∙ c.if-bad_alphabet.false) (sym c.too_long.ensures ∙ c.if-too_long.false) c.read-reading.result c.read-reading.ensures.reading
     c.in_default.not-Good c.text_refusal.result c.text_refusal.ensures
 
 pub condition_mask-mask-requires : goal.condition_mask-mask-requires
 condition_mask-mask-requires c =
-    let represented : Represented c.args.i 0 false c.args.text.now c.read-reading.new.nodes c.in-Good.count = read_represents c.args.i 0 false c.args.text.now c.read-reading.new.nodes c.read-reading.result c.in-Good.count c.in-Good.is c.read-reading.ensures.reading c.read-reading.ensures.nodes in
-    let fits : bad_alphabet c.args.i 0 ≡ false = sym c.bad_alphabet.ensures ∙ c.if-bad_alphabet.false in
-    let inputs_are : c.power.result ≡ 2 ^ c.args.i = let h = inputs_fit c.args.i 0 fits in
-    power_is c.args.i c.power.result (omega arith) c.power.ensures in
-    let v = (represented).represents in
-    let h = inputs_fit c.args.i 0 fits in
-    let m : 2 ^ c.args.i ≤ number_limit = pow_mono {j = name_limit} h in
-    (omega (arith, v.few_nodes, v.count), omega (arith, inputs_are))
+    let v = read_represents c.args.i 0 false c.args.text.now c.read-reading.new.nodes c.read-reading.result c.in-Good.count c.in-Good.is c.read-reading.ensures.reading
+    c.read-reading.ensures.nodes in
+    let m : 2 ^ c.args.i ≤ number_limit = pow_mono {j = name_limit} (inputs_fit c.args.i 0 (sym c.bad_alphabet.ensures ∙ c.if-bad_alphabet.false)) in
+    (omega (arith, v.represents.few_nodes, v.represents.count), omega (arith, inputs_are c.args.i c.power.result (sym c.bad_alphabet.ensures ∙ c.if-bad_alphabet.false) c.power.ensures, m))
 
 pub returns-then-mask-eq0 : goal.returns-then-mask-eq0
-unfolding mask_of
 returns-then-mask-eq0 c =
-    let represented : Represented c.args.i 0 false c.args.text.now c.read-reading.new.nodes c.in-Good.count = read_represents c.args.i 0 false c.args.text.now c.read-reading.new.nodes c.read-reading.result c.in-Good.count c.in-Good.is c.read-reading.ensures.reading c.read-reading.ensures.nodes in
-    let fits : bad_alphabet c.args.i 0 ≡ false = sym c.bad_alphabet.ensures ∙ c.if-bad_alphabet.false in
-    let short : too_long c.args.text.now ≡ false = sym c.too_long.ensures ∙ c.if-too_long.false in
-    let inputs_are : c.power.result ≡ 2 ^ c.args.i = let h = inputs_fit c.args.i 0 fits in
-    power_is c.args.i c.power.result (omega arith) c.power.ensures in
-    let mask_is : c.condition_mask-mask.result ≡ mask_of (represented).formula c.args.i = let v = represented in
-    c.condition_mask-mask.ensures v.formula v.represents ∙ ap (of_bits (λ x. value v.formula 1 x 0)) inputs_are in
-    let judged : (c.condition_mask-mask.result ≡ 0 → Conditioned c.args.i c.args.text.now (Refused Unsatisfiable))
-    × ((c.condition_mask-mask.result ≡ 0 → ⊥)
-    → Conditioned c.args.i c.args.text.now (Mask c.condition_mask-mask.result)) = let v = represented in
-    by_mask c.args.i c.args.text.now fits short c.in-Good.count v.reading v.formula v.good c.condition_mask-mask.result mask_is in
-    (judged).0 c.if-mask-eq0.true
+    (judged c.args.i c.args.text.now c.read-reading.new.nodes c.in-Good.count c.power.result c.condition_mask-mask.result
+    (read_represents c.args.i 0 false c.args.text.now c.read-reading.new.nodes c.read-reading.result c.in-Good.count c.in-Good.is c.read-reading.ensures.reading
+    c.read-reading.ensures.nodes) (sym c.bad_alphabet.ensures ∙ c.if-bad_alphabet.false) (sym c.too_long.ensures ∙ c.if-too_long.false)
+    (inputs_are c.args.i c.power.result (sym c.bad_alphabet.ensures ∙ c.if-bad_alphabet.false) c.power.ensures) c.condition_mask-mask.ensures).0 c.if-mask-eq0.true
 
 pub returns : goal.returns
-unfolding mask_of
 returns c =
-    let represented : Represented c.args.i 0 false c.args.text.now c.read-reading.new.nodes c.in-Good.count = read_represents c.args.i 0 false c.args.text.now c.read-reading.new.nodes c.read-reading.result c.in-Good.count c.in-Good.is c.read-reading.ensures.reading c.read-reading.ensures.nodes in
-    let fits : bad_alphabet c.args.i 0 ≡ false = sym c.bad_alphabet.ensures ∙ c.if-bad_alphabet.false in
-    let short : too_long c.args.text.now ≡ false = sym c.too_long.ensures ∙ c.if-too_long.false in
-    let inputs_are : c.power.result ≡ 2 ^ c.args.i = let h = inputs_fit c.args.i 0 fits in
-    power_is c.args.i c.power.result (omega arith) c.power.ensures in
-    let mask_is : c.condition_mask-mask.result ≡ mask_of (represented).formula c.args.i = let v = represented in
-    c.condition_mask-mask.ensures v.formula v.represents ∙ ap (of_bits (λ x. value v.formula 1 x 0)) inputs_are in
-    let judged : (c.condition_mask-mask.result ≡ 0 → Conditioned c.args.i c.args.text.now (Refused Unsatisfiable))
-    × ((c.condition_mask-mask.result ≡ 0 → ⊥)
-    → Conditioned c.args.i c.args.text.now (Mask c.condition_mask-mask.result)) = let v = represented in
-    by_mask c.args.i c.args.text.now fits short c.in-Good.count v.reading v.formula v.good c.condition_mask-mask.result mask_is in
-    (judged).1 c.if-mask-eq0.false
+    (judged c.args.i c.args.text.now c.read-reading.new.nodes c.in-Good.count c.power.result c.condition_mask-mask.result
+    (read_represents c.args.i 0 false c.args.text.now c.read-reading.new.nodes c.read-reading.result c.in-Good.count c.in-Good.is c.read-reading.ensures.reading
+    c.read-reading.ensures.nodes) (sym c.bad_alphabet.ensures ∙ c.if-bad_alphabet.false) (sym c.too_long.ensures ∙ c.if-too_long.false)
+    (inputs_are c.args.i c.power.result (sym c.bad_alphabet.ensures ∙ c.if-bad_alphabet.false) c.power.ensures) c.condition_mask-mask.ensures).1 c.if-mask-eq0.false

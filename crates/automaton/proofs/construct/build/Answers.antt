@@ -2,7 +2,6 @@
 -- Assumes nothing.
 use Prim.Native.Nat.{suc, ◌*◌, ◌≤◌}
 use mathlib.Core.Path.{◌≡◌, sym, ◌∙◌}
-use mathlib.Core.Bool.{false, ◌||◌}
 use native.Mathlib.Omega.{arith}
 use lib.Dec.{ltb}
 use lib.ListN.{length}
@@ -43,10 +42,6 @@ returns-then-n-gt-STATE_LIMIT c =
     built_beyond φ c.args.letters c.args.room c.args.transitions.now c.args.accepting.now c.list_states-n.result c.list_states-n.new.list
     c.requires.3 (listed φ tab e) (omega arith)
 
-pub short_automaton-requires : goal.short_automaton-requires
-short_automaton-requires c =
-    (c.requires.4, omega (arith, c.if-n-gt-STATE_LIMIT.false))
-
 pub returns-then-short_automaton : goal.returns-then-short_automaton
 returns-then-short_automaton c =
     let listed : (φ : Formula) → Tabulates φ c.args.letters c.args.table.now
@@ -59,9 +54,8 @@ returns-then-short_automaton c =
 
 pub fill_transitions-requires : goal.fill_transitions-requires
 fill_transitions-requires c =
-    let room_for : (ltb c.args.room c.list_states-n.result || (short_automaton c.args.letters c.list_states-n.result c.args.transitions.now c.args.accepting.now)) ≡ false = sym c.short_automaton.ensures ∙ c.if-short_automaton.false in
     let long : (c.list_states-n.result * c.args.letters ≤ length c.args.transitions.now)
-    × (c.list_states-n.result ≤ length c.args.accepting.now) = long_enough c.args.letters c.list_states-n.result c.args.transitions.now c.args.accepting.now (or_right (ltb c.args.room c.list_states-n.result) (short_automaton c.args.letters c.list_states-n.result c.args.transitions.now c.args.accepting.now) room_for) in (
+    × (c.list_states-n.result ≤ length c.args.accepting.now) = long_enough c.args.letters c.list_states-n.result c.args.transitions.now c.args.accepting.now (or_right (ltb c.args.room c.list_states-n.result) (short_automaton c.args.letters c.list_states-n.result c.args.transitions.now c.args.accepting.now) (sym c.short_automaton.ensures ∙ c.if-short_automaton.false)) in (
       rw (one_shifted c.args.width c.requires.1) (pow_mono c.requires.1),
       c.requires.4,
       c.find_twins-twins.ensures,
@@ -70,23 +64,15 @@ fill_transitions-requires c =
       (long).0,
     )
 
-pub mark_states-requires : goal.mark_states-requires
-mark_states-requires c =
-    let room_for : (ltb c.args.room c.list_states-n.result || (short_automaton c.args.letters c.list_states-n.result c.args.transitions.now c.args.accepting.now)) ≡ false = sym c.short_automaton.ensures ∙ c.if-short_automaton.false in
-    let long : (c.list_states-n.result * c.args.letters ≤ length c.args.transitions.now)
-    × (c.list_states-n.result ≤ length c.args.accepting.now) = long_enough c.args.letters c.list_states-n.result c.args.transitions.now c.args.accepting.now (or_right (ltb c.args.room c.list_states-n.result) (short_automaton c.args.letters c.list_states-n.result c.args.transitions.now c.args.accepting.now) room_for) in
-    (omega arith, omega (arith, (long).1), c.requires.2)
-
 pub returns : goal.returns
 returns c =
     let listed : (φ : Formula) → Tabulates φ c.args.letters c.args.table.now
     → c.args.width ≡ suc (operators φ)
     → AllListed φ c.args.letters c.list_states-n.result c.list_states-n.new.list = λ φ tab e. c.list_states-n.ensures.listed φ tab (vectors_shifted φ c.args.width c.requires.1 e)
     (start_made φ _ c.args.width c.requires.1 e c.start_word-first.ensures) in
-    let room_for : (ltb c.args.room c.list_states-n.result || (short_automaton c.args.letters c.list_states-n.result c.args.transitions.now c.args.accepting.now)) ≡ false = sym c.short_automaton.ensures ∙ c.if-short_automaton.false in
     λ φ tab e v.
     let all = listed φ tab e in
     built_within φ c.args.letters c.args.room c.args.transitions.now c.args.accepting.now c.list_states-n.result c.list_states-n.new.list
     c.requires.3 all c.if-n-gt-STATE_LIMIT.false c.args.end c.fill_transitions.new.transitions c.mark_states.new.accepting
     v (c.fill_transitions.ensures.filled φ tab (vectors_shifted φ c.args.width c.requires.1 e) all) c.fill_transitions.ensures.kept
-    c.mark_states.ensures.marked c.mark_states.ensures.kept room_for
+    c.mark_states.ensures.marked c.mark_states.ensures.kept (sym c.short_automaton.ensures ∙ c.if-short_automaton.false)

@@ -1,7 +1,6 @@
 -- `automaton::coordinates::coordinate` meets its contract: below the limit the formula is the word, and from there on no valuation has the coordinate. Assumes nothing.
 use mathlib.Core.Path.{sym, ap, ◌∙◌}
 use Prim.Native.Nat.{ℕ, ◌+◌, ◌*◌, ◌/◌, ◌^◌, ◌≤◌}
-use native.Mathlib.Nat.{lt_of_le_of_lt}
 use native.Mathlib.Omega.{arith}
 use lib.Pow.{pow_mono}
 use borrow.Author.Rules.{rules}
@@ -9,7 +8,7 @@ use Rattle.reader.specs.Limits.{operator_limit}
 use Rattle.automaton.specs.inner.Sizes.{coordinate_limit}
 use Rattle.automaton.specs.inner.Evaluation.{all_valuations}
 use Rattle.automaton.proofs.BitLaws.{no_coordinate}
-use Rattle.automaton.proofs.CoordinateWordLaws.{coordinate_formula, shifted_few, shifted_twice, part_le}
+use Rattle.automaton.proofs.CoordinateWordLaws.{coordinate_formula, shifted_few, shifted_twice}
 use Rattle.automaton.proofs.coordinates.coordinate.Goals as goal
 
 pub overflow_shl-p-then-j-lt-COORDINATE_LIMIT : goal.overflow_shl-p-then-j-lt-COORDINATE_LIMIT
@@ -21,10 +20,6 @@ overflow_add-result c =
     let h : 2 ^ (2 ^ c.args.j) ≤ 2 ^ (2 ^ operator_limit) = pow_mono (pow_mono {i = c.args.j} {j = operator_limit} (omega (arith, c.if-j-lt-COORDINATE_LIMIT.true))) in
     let e = shifted_twice c.args.j c.if-j-lt-COORDINATE_LIMIT.true in
     search rules
-
-pub overflow_mul-result : goal.overflow_mul-result
-overflow_mul-result c =
-    record { fits = lt_of_le_of_lt (part_le _ _ all_valuations (omega arith)) (omega arith) }
 
 pub returns-then-j-lt-COORDINATE_LIMIT : goal.returns-then-j-lt-COORDINATE_LIMIT
 returns-then-j-lt-COORDINATE_LIMIT c =

@@ -1,7 +1,6 @@
 -- `automaton::coordinates::start_word` meets its contract. Assumes nothing.
 use Prim.Native.Nat.{ℕ, ◌/◌, ◌%◌, ◌≤◌, ◌<◌}
 use native.Mathlib.Omega.{arith}
-use lib.Pow.{pow_pos}
 use mathlib.Core.Path.{◌≡◌, ap, ap₂, ◌∙◌}
 use Rattle.automaton.specs.Bits.{bit, of_bits}
 use Rattle.automaton.specs.inner.Sizes.{vector_limit, word_bits}
@@ -12,18 +11,8 @@ use Rattle.automaton.proofs.coordinates.start_word.Goals as goal
 first_word : (n : ℕ) → n ≤ vector_limit → of_bits (λ v. bit v (n / vector_limit / 2)) vector_limit ≡ of_bits (λ v. bit v 0) vector_limit
 first_word n h = let e : n / vector_limit / 2 ≡ 0 = omega arith in ap (λ (j : ℕ). of_bits (λ v. bit v j) vector_limit) e
 
-pub nonzero_rem-result : goal.nonzero_rem-result
-nonzero_rem-result c =
-    let h : c.args.vectors < word_bits = omega (arith, c.if-vectors-lt-VECTORS.true) in
-    rw (bit_shifted c.args.vectors h) (pow_pos c.args.vectors)
-
 pub returns-then-vectors-lt-VECTORS : goal.returns-then-vectors-lt-VECTORS
 returns-then-vectors-lt-VECTORS c =
     let h : c.args.vectors < word_bits = omega (arith, c.if-vectors-lt-VECTORS.true) in
     ap₂ (λ (x y : ℕ). x % y) (c.coordinate-all.ensures ∙ first_word c.args.vectors (omega arith)) (bit_shifted c.args.vectors h)
     ∙ of_bits_mod (λ v. bit v 0) vector_limit c.args.vectors (omega arith)
-
-pub returns : goal.returns
-returns c =
-    let e : vector_limit ≡ c.args.vectors = omega arith in
-    c.coordinate-all.ensures ∙ first_word c.args.vectors (omega arith) ∙ ap (of_bits (λ v. bit v 0)) e

@@ -2,17 +2,11 @@
 -- Assumes nothing.
 use Rattle.automaton.specs.inner.Evaluation.{Evaluated}
 use native.Mathlib.Omega.{arith}
-use mathlib.Core.Path.{◌≡◌, refl, ap, ◌∙◌}
+use mathlib.Core.Path.{ap, ◌∙◌}
 use Prim.Native.Nat.{ℕ}
 use lib.ListN.{get_or, length-set}
-use native.Mathlib.Nat.{not-suc-le-zero}
 use Rattle.automaton.proofs.EvaluationLaws.{evaluated_more}
 use Rattle.automaton.proofs.evaluate.evaluate.Goals as goal
-
-pub loop-i-init : goal.loop-i-init
-unfolding Evaluated
-loop-i-init c =
-    (omega arith, refl, λ j l k φ t. absurd (not-suc-le-zero l))
 
 pub loop-i-preserved : goal.loop-i-preserved
 unfolding Evaluated
@@ -24,9 +18,3 @@ loop-i-preserved c =
       evaluated_more c.args.nodes.now c.args.letter c.loop-i.words c.loop-i.i _ _ _
           (omega arith) c.loop-i.invariant.1 left right c.node_word.ensures c.loop-i.invariant.2,
     )
-
-pub returns : goal.returns
-unfolding Evaluated
-returns c =
-    let i=count : c.loop-i.i ≡ c.args.count = omega arith in
-    rw (← i=count) c.loop-i.invariant.2

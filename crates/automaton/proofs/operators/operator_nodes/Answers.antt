@@ -2,7 +2,7 @@
 -- is what is left of the nodes. Assumes nothing.
 use native.Mathlib.Omega.{arith}
 use native.Mathlib.Numerals.{add-one}
-use mathlib.Core.Path.{◌≡◌, refl}
+use mathlib.Core.Path.{refl}
 use lib.ListN.{length-set}
 use Rattle.automaton.proofs.OperatorLaws.{located_none, located_more}
 use Rattle.automaton.proofs.operators.operator_nodes.Goals as goal
@@ -18,8 +18,3 @@ loop-i-preserved c = (
   rw (add-one, c.operator_coordinate-j.ensures.exact)
       (located_more c.args.nodes.now c.loop-i.places c.loop-i.i c.loop-i.invariant.1 c.loop-i.invariant.2),
 )
-
-pub returns : goal.returns
-returns c =
-    let i=count : c.loop-i.i ≡ c.args.count = omega arith in
-    rw (← i=count) c.loop-i.invariant.2

@@ -1,16 +1,12 @@
 -- `automaton::tabulate::fill_rows` meets its contract. The invariant: the rows of the letters below a hold their valuations. The measure is what is
 -- left of the letters. Assumes nothing.
 use native.Mathlib.Omega.{arith}
-use mathlib.Core.Path.{refl, ◌∙◌}
+use mathlib.Core.Path.{◌∙◌}
 use Prim.Native.Nat.{◌*◌}
 use Rattle.automaton.specs.Valuation.{present}
 use Rattle.automaton.proofs.CoordinateLaws.{present_from}
 use Rattle.automaton.proofs.LoopLaws.{rows_more, rows_tabulate}
 use Rattle.automaton.proofs.tabulate.fill_rows.Goals as goal
-
-pub loop-a-init : goal.loop-a-init
-loop-a-init c =
-    (omega arith, refl, λ φ rep w b k h. absurd (let z : ⊥ = omega arith in z))
 
 pub loop-a-preserved : goal.loop-a-preserved
 loop-a-preserved c = (

@@ -1,10 +1,8 @@
 -- `automaton::twins::fill_twins` meets its contract. The invariant: the letters below a have their twins. The measure is what is left of
 -- the letters. Assumes nothing.
-use Prim.Native.Nat.{ℕ}
-use mathlib.Core.Path.{◌≡◌, refl, subst}
+use mathlib.Core.Path.{refl}
 use native.Mathlib.Omega.{arith}
 use lib.ListN.{length-set}
-use Rattle.automaton.specs.inner.Representation.{Twins}
 use Rattle.automaton.proofs.TwinLaws.{twins_none, twins_more}
 use Rattle.automaton.proofs.twins.fill_twins.Goals as goal
 
@@ -20,8 +18,3 @@ loop-a-preserved c = (
   twins_more c.args.entries c.loop-a.a c.twin_of-b.result c.args.table.now
       c.loop-a.twins c.loop-a.invariant.3 (omega arith) c.twin_of-b.ensures.0 c.twin_of-b.ensures.1,
 )
-
-pub returns : goal.returns
-returns c =
-    let all : c.loop-a.a ≡ c.args.letters = omega arith in
-    subst (λ (m : ℕ). Twins m c.args.entries c.args.table.now c.loop-a.twins) all c.loop-a.invariant.3

@@ -1,33 +1,19 @@
 -- `automaton::valuation::vector_from` meets its contract. The invariant: the bits below j are set. The measure is what is left of the width. Assumes nothing.
 use Rattle.automaton.proofs.CoordinateLaws.{of_bits_small}
 use native.Mathlib.Omega.{arith}
-use mathlib.Core.Path.{◌≡◌, refl, ap, ◌∙◌}
+use mathlib.Core.Path.{◌≡◌, ap, ◌∙◌}
 use mathlib.Core.Bool.{Bool}
 use Prim.Native.Nat.{ℕ}
 use lib.ListN.{get_or}
 use Rattle.automaton.specs.Bits.{bit, of_bits}
-use Rattle.automaton.proofs.BitLaws.{of_bits_lt, of_bits_step, one_lt}
+use Rattle.automaton.proofs.BitLaws.{of_bits_lt, one_lt}
 use Rattle.automaton.proofs.valuation.vector_from.Goals as goal
-
-pub loop-j-init : goal.loop-j-init
-unfolding of_bits
-loop-j-init c =
-    (omega arith, refl)
 
 pub set_bit-r-requires : goal.set_bit-r-requires
 unfolding of_bits
 set_bit-r-requires c =
     let f : ℕ → Bool = λ i. bit (get_or c.args.words.now i 0) c.args.v in
     (omega arith, rw c.test_bit-b.ensures (one_lt (f c.loop-j.j)), rw c.loop-j.invariant.1 (of_bits_lt f c.loop-j.j))
-
-pub loop-j-preserved : goal.loop-j-preserved
-unfolding of_bits
-loop-j-preserved c = (
-  omega arith,
-  c.set_bit-r.ensures
-      ∙ of_bits_step (λ i. bit (get_or c.args.words.now i 0) c.args.v)
-      c.loop-j.j _ _ c.loop-j.invariant.1 c.test_bit-b.ensures,
-)
 
 pub returns : goal.returns
 unfolding of_bits

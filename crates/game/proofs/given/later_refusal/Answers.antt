@@ -1,9 +1,7 @@
 -- `game::given::later_refusal` meets its contract: each return by the test that decides.
 -- Assumes nothing.
-use Rattle.std.proofs.Common.{◌≡◌, false, sym, ◌∙◌, mul-le-mul, arith, length-take-le}
+use Rattle.std.proofs.Common.{sym, ◌∙◌}
 use Rattle.game.specs.inner.Game.{arena_at}
-use Rattle.game.specs.Given.{short_read, short_tables, bad_mask, move_count}
-use Rattle.game.proofs.CheckLaws.{transitions_long}
 use Rattle.game.proofs.GivenLaws.{read_refused, tables_refused, state_refused, move_refused, mask_refused, unmet_refused, none_refused}
 use Rattle.game.proofs.MetLaws.{empty_mask, some_mask}
 use Rattle.game.proofs.given.later_refusal.Goals as goal
@@ -23,46 +21,22 @@ returns-then-states-start c =
     (sym c.short_read.ensures ∙ c.if-short_read.false)
     (sym c.short_tables.ensures ∙ c.if-short_tables.false) c.if-states-start.true
 
-pub overflow_mul-letters : goal.overflow_mul-letters
-overflow_mul-letters c =
-    omega (arith, mul-le-mul c.requires.inputs_fit c.requires.outputs_fit)
-
-pub overflow_mul-count : goal.overflow_mul-count
-overflow_mul-count c =
-    omega (arith, mul-le-mul c.requires.states_fit (mul-le-mul c.requires.inputs_fit c.requires.outputs_fit))
-
-pub slice_bounds-first_over-end : goal.slice_bounds-first_over-end
-slice_bounds-first_over-end c =
-    let read_no : short_read (arena_at c.args.sizes c.args.transitions.now c.args.accepting.now c.args.mask) ≡ false = sym c.short_read.ensures ∙ c.if-short_read.false in
-    let g = (arena_at c.args.sizes c.args.transitions.now c.args.accepting.now c.args.mask) in
-    sym (length-take-le (move_count g) g.transitions (transitions_long g read_no))
-
 pub returns-then-k-count : goal.returns-then-k-count
 returns-then-k-count c =
-    let read_no : short_read (arena_at c.args.sizes c.args.transitions.now c.args.accepting.now c.args.mask) ≡ false = sym c.short_read.ensures ∙ c.if-short_read.false in
-    let tables-no : short_tables (arena_at c.args.sizes c.args.transitions.now c.args.accepting.now c.args.mask) c.args.system.now c.args.environment.now ≡ false = sym c.short_tables.ensures ∙ c.if-short_tables.false in
-    move_refused c.args.start (arena_at c.args.sizes c.args.transitions.now c.args.accepting.now c.args.mask) c.args.system.now c.args.environment.now read_no tables-no c.if-states-start.false
+    move_refused c.args.start (arena_at c.args.sizes c.args.transitions.now c.args.accepting.now c.args.mask) c.args.system.now c.args.environment.now (sym c.short_read.ensures ∙ c.if-short_read.false) (sym c.short_tables.ensures ∙ c.if-short_tables.false) c.if-states-start.false
     c.first_over-k.result c.first_over-k.ensures c.if-k-count.true
 
 pub returns-then-bad_mask : goal.returns-then-bad_mask
 returns-then-bad_mask c =
-    let read_no : short_read (arena_at c.args.sizes c.args.transitions.now c.args.accepting.now c.args.mask) ≡ false = sym c.short_read.ensures ∙ c.if-short_read.false in
-    let tables-no : short_tables (arena_at c.args.sizes c.args.transitions.now c.args.accepting.now c.args.mask) c.args.system.now c.args.environment.now ≡ false = sym c.short_tables.ensures ∙ c.if-short_tables.false in
-    mask_refused c.args.start (arena_at c.args.sizes c.args.transitions.now c.args.accepting.now c.args.mask) c.args.system.now c.args.environment.now read_no tables-no c.if-states-start.false
+    mask_refused c.args.start (arena_at c.args.sizes c.args.transitions.now c.args.accepting.now c.args.mask) c.args.system.now c.args.environment.now (sym c.short_read.ensures ∙ c.if-short_read.false) (sym c.short_tables.ensures ∙ c.if-short_tables.false) c.if-states-start.false
     c.first_over-k.result c.first_over-k.ensures c.if-k-count.false (sym c.bad_mask.ensures ∙ c.if-bad_mask.true)
 
 pub returns-then-mask-eq0 : goal.returns-then-mask-eq0
 returns-then-mask-eq0 c =
-    let read_no : short_read (arena_at c.args.sizes c.args.transitions.now c.args.accepting.now c.args.mask) ≡ false = sym c.short_read.ensures ∙ c.if-short_read.false in
-    let tables-no : short_tables (arena_at c.args.sizes c.args.transitions.now c.args.accepting.now c.args.mask) c.args.system.now c.args.environment.now ≡ false = sym c.short_tables.ensures ∙ c.if-short_tables.false in
-    let mask-no : bad_mask (arena_at c.args.sizes c.args.transitions.now c.args.accepting.now c.args.mask) ≡ false = sym c.bad_mask.ensures ∙ c.if-bad_mask.false in
-    unmet_refused c.args.start (arena_at c.args.sizes c.args.transitions.now c.args.accepting.now c.args.mask) c.args.system.now c.args.environment.now read_no tables-no c.if-states-start.false
-    c.first_over-k.result c.first_over-k.ensures c.if-k-count.false mask-no (empty_mask (arena_at c.args.sizes c.args.transitions.now c.args.accepting.now c.args.mask) c.if-mask-eq0.true)
+    unmet_refused c.args.start (arena_at c.args.sizes c.args.transitions.now c.args.accepting.now c.args.mask) c.args.system.now c.args.environment.now (sym c.short_read.ensures ∙ c.if-short_read.false) (sym c.short_tables.ensures ∙ c.if-short_tables.false) c.if-states-start.false
+    c.first_over-k.result c.first_over-k.ensures c.if-k-count.false (sym c.bad_mask.ensures ∙ c.if-bad_mask.false) (empty_mask (arena_at c.args.sizes c.args.transitions.now c.args.accepting.now c.args.mask) c.if-mask-eq0.true)
 
 pub returns : goal.returns
 returns c =
-    let read_no : short_read (arena_at c.args.sizes c.args.transitions.now c.args.accepting.now c.args.mask) ≡ false = sym c.short_read.ensures ∙ c.if-short_read.false in
-    let tables-no : short_tables (arena_at c.args.sizes c.args.transitions.now c.args.accepting.now c.args.mask) c.args.system.now c.args.environment.now ≡ false = sym c.short_tables.ensures ∙ c.if-short_tables.false in
-    let mask-no : bad_mask (arena_at c.args.sizes c.args.transitions.now c.args.accepting.now c.args.mask) ≡ false = sym c.bad_mask.ensures ∙ c.if-bad_mask.false in
-    none_refused c.args.start (arena_at c.args.sizes c.args.transitions.now c.args.accepting.now c.args.mask) c.args.system.now c.args.environment.now read_no tables-no c.if-states-start.false
-    c.first_over-k.result c.first_over-k.ensures c.if-k-count.false mask-no (some_mask (arena_at c.args.sizes c.args.transitions.now c.args.accepting.now c.args.mask) mask-no c.if-mask-eq0.false)
+    none_refused c.args.start (arena_at c.args.sizes c.args.transitions.now c.args.accepting.now c.args.mask) c.args.system.now c.args.environment.now (sym c.short_read.ensures ∙ c.if-short_read.false) (sym c.short_tables.ensures ∙ c.if-short_tables.false) c.if-states-start.false
+    c.first_over-k.result c.first_over-k.ensures c.if-k-count.false (sym c.bad_mask.ensures ∙ c.if-bad_mask.false) (some_mask (arena_at c.args.sizes c.args.transitions.now c.args.accepting.now c.args.mask) (sym c.bad_mask.ensures ∙ c.if-bad_mask.false) c.if-mask-eq0.false)

@@ -6,18 +6,8 @@ use Rattle.plays.specs.Arena.{holds}
 use Rattle.game.specs.inner.Game.{arena_of}
 use Rattle.game.specs.inner.Needs.{NextNeed}
 use Rattle.reader.proofs.BoolLaws.{positive}
-use Rattle.game.proofs.LiftLaws.{look_none, look_above, look_stands, look_raises, look_drops}
+use Rattle.game.proofs.LiftLaws.{look_stands, look_raises, look_drops}
 use Rattle.game.proofs.needs.next_need.Goals as goal
-
-pub returns-then-own-eq0 : goal.returns-then-own-eq0
-unfolding holds
-returns-then-own-eq0 c =
-    look_none c.if-own-eq0.true
-
-pub returns-then-limit-own : goal.returns-then-limit-own
-unfolding holds
-returns-then-limit-own c =
-    look_above c.requires.bounds c.requires.s_lt_states.0 c.if-limit-own.true
 
 pub returns-then-g-x : goal.returns-then-g-x
 unfolding holds

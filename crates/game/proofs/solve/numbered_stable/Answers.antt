@@ -2,12 +2,8 @@
 -- Assumes nothing.
 use Rattle.std.proofs.Common.{◌≡◌, length, rules}
 use Rattle.automaton.specs.Limits.{state_limit}
-use Rattle.game.proofs.SolutionLaws.{solves_cannot, asks_narrow, solves_stable}
+use Rattle.game.proofs.SolutionLaws.{asks_narrow}
 use Rattle.game.proofs.solve.numbered_stable.Goals as goal
-
-pub returns-then-environment-start-ne0 : goal.returns-then-environment-start-ne0
-returns-then-environment-start-ne0 c =
-    solves_cannot c.requires.start_lt_states c.requires.found c.if-environment-start-ne0.true
 
 pub narrow-needs-requires : goal.narrow-needs-requires
 narrow-needs-requires c =
@@ -19,7 +15,3 @@ pub widened-near-requires : goal.widened-near-requires
 widened-near-requires c =
     let q = asks_narrow c.requires.start_lt_states c.requires.found c.requires.fair_value c.if-environment-start-ne0.false in
     record { valid = c.requires.valid; bounds = c.narrow-needs.ensures.narrowed.bounds; ranked = c.narrow-needs.ensures.narrowed.ranked; shrinks = c.narrow-needs.ensures.narrowed.won; by_index = c.narrow-needs.ensures.narrowed.low; unranked_beaten = q.3; exact_needs = q.1; by_index_2 = q.2; limit_le_states = (c.narrow-needs.ensures.narrowed.few, c.narrow-needs.ensures.ranks_len) }
-
-pub returns : goal.returns
-returns c =
-    solves_stable c.requires.start_lt_states c.requires.found c.requires.fair_value c.narrow-needs.ensures.narrowed c.widened-near.ensures

@@ -3,10 +3,6 @@
 use Rattle.game.proofs.StrategyLaws.{filled}
 use Rattle.game.proofs.tables.decide.Goals as goal
 
-pub fill-requires : goal.fill-requires
-fill-requires c =
-    record { valid = c.requires.valid; ranked = c.solve-solution.ensures.near_ranked; ranking = c.solve-solution.ensures.found.ranking; inputs_nonzero = (c.requires.inputs_nonzero.0, c.requires.inputs_nonzero.2, c.requires.inputs_nonzero.3) }
-
 pub returns : goal.returns
 returns c =
     let both = filled c.solve-solution.ensures c.fill.ensures.system_filled c.fill.ensures.environment_filled c.requires.valid c.requires.inputs_nonzero.1 in

@@ -1,23 +1,11 @@
 -- `game::tables::fill_environment` meets its contract. Invariant: the bytes below s are the environment's, those from s on are as they were, and the
 -- length is kept. Measure: the states left.
 -- Assumes nothing.
-use Rattle.std.proofs.Common.{ℕ, ◌<◌, length, refl, ◌∙◌, arith, length-set, rules, below_none}
+use Rattle.std.proofs.Common.{ℕ, ◌<◌, length, ◌∙◌, arith, length-set}
 use Rattle.game.specs.inner.Game.{arena_of}
 use Rattle.game.specs.inner.Bytes.{EnvironmentByte}
 use Rattle.game.proofs.TableLaws.{fill_below, fill_rest}
 use Rattle.game.proofs.tables.fill_environment.Goals as goal
-
-pub loop-s-init : goal.loop-s-init
-loop-s-init c =
-    (search rules, below_none _, (λ k _. refl), refl)
-
-pub environment_byte-requires : goal.environment_byte-requires
-environment_byte-requires c =
-    record { valid = c.requires.valid; ranked = c.requires.ranked; s_lt_state_limit = omega (arith, c.requires.valid.moving.states_fit) }
-
-pub bounds-environment-s : goal.bounds-environment-s
-bounds-environment-s c =
-    omega (arith, c.requires.states_in_bounds)
 
 pub loop-s-preserved : goal.loop-s-preserved
 loop-s-preserved c =
@@ -29,11 +17,3 @@ loop-s-preserved c =
       fill_rest P c.args.environment.now c.loop-s.environment c.loop-s.s c.environment_byte.result fits c.loop-s.invariant.2,
       length-set c.loop-s.environment c.loop-s.s c.environment_byte.result ∙ c.loop-s.invariant.3,
     )
-
-pub shape_of-environment : goal.shape_of-environment
-shape_of-environment c =
-    c.loop-s.invariant.3
-
-pub returns : goal.returns
-returns c =
-    record { byte = λ s h. c.loop-s.invariant.1 s (omega arith); kept = record { size = c.loop-s.invariant.3; beyond = λ k h. c.loop-s.invariant.2 k (omega arith) } }

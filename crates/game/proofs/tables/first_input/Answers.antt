@@ -1,37 +1,12 @@
 -- `game::tables::first_input` meets its contract. Invariant: the ranks allow no input below x. Measure: the inputs left. They allow one, so the
 -- loop does not run to its end.
 -- Assumes nothing.
-use Rattle.std.proofs.Common.{◌≡◌, ℕ, ◌<◌, not, get_or, ap, ◌∙◌, arith, rules, below_none, below_more}
+use Rattle.std.proofs.Common.{◌≡◌, ℕ, ◌<◌, not, get_or, ap, ◌∙◌, arith, below_more}
 use Rattle.plays.specs.Arena.{holds}
 use Rattle.game.specs.inner.Game.{arena_of}
 use Rattle.game.specs.inner.Bytes.{limit_of}
 use Rattle.game.proofs.TableLaws.{allowed_every, every_allowed, input_is_byte}
 use Rattle.game.proofs.tables.first_input.Goals as goal
-
-pub overflow_cast-most : goal.overflow_cast-most
-unfolding holds
-overflow_cast-most c =
-    omega (arith, c.requires.valid.moving.states_fit)
-
-pub loop-x-init : goal.loop-x-init
-unfolding holds
-loop-x-init c =
-    (search rules, below_none _)
-
-pub has_condition-judged-requires : goal.has_condition-judged-requires
-unfolding holds
-has_condition-judged-requires c =
-    omega (arith, c.requires.valid.moving.inputs_fit)
-
-pub limit-allowed-requires : goal.limit-allowed-requires
-unfolding holds
-limit-allowed-requires c =
-    c.requires.s_lt_states.1
-
-pub is_safe-requires : goal.is_safe-requires
-unfolding holds
-is_safe-requires c =
-    record { valid = c.requires.valid; s_lt_states = (c.requires.s_lt_states.0, c.loop-x-test.true) }
 
 pub returns-then-is_safe : goal.returns-then-is_safe
 unfolding holds
@@ -43,11 +18,6 @@ returns-then-is_safe c =
     (every_allowed c.args.g.fair (arena_of c.args.g c.args.transitions.now c.args.accepting.now) c.args.ranks.now c.args.s c.loop-x.x (not c.has_condition-judged.result) (ap not c.has_condition-judged.ensures)
     c.limit-allowed.result limit_is c.loop-x-test.true (c.is_safe.ensures.safe c.if-is_safe.true))
     c.loop-x.invariant.1
-
-pub overflow_add-x : goal.overflow_add-x
-unfolding holds
-overflow_add-x c =
-    omega (arith, c.requires.valid.moving.inputs_fit)
 
 pub loop-x-preserved : goal.loop-x-preserved
 unfolding holds

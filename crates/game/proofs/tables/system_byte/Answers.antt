@@ -4,13 +4,8 @@ use Rattle.std.proofs.Common.{◌<◌, get_or}
 use Rattle.plays.specs.Arena.{holds}
 use Rattle.game.specs.inner.Game.{arena_of}
 use Rattle.reader.proofs.BoolLaws.{positive}
-use Rattle.game.proofs.TableLaws.{some_output, output_is_byte, no_output}
+use Rattle.game.proofs.TableLaws.{some_output}
 use Rattle.game.proofs.tables.system_byte.Goals as goal
-
-pub returns-then-own-eq0 : goal.returns-then-own-eq0
-unfolding holds
-returns-then-own-eq0 c =
-    no_output c.args.g.fair (arena_of c.args.g c.args.transitions.now c.args.accepting.now) c.args.most c.args.ranks.now c.args.s c.args.x c.if-own-eq0.true
 
 pub first_output-y-requires : goal.first_output-y-requires
 unfolding holds
@@ -21,11 +16,3 @@ first_output-y-requires c =
       some_output = some_output c.args.g.fair (arena_of c.args.g c.args.transitions.now c.args.accepting.now) c.args.most c.args.ranks.now c.args.s c.args.x p c.has_condition-judged.result
           c.has_condition-judged.ensures c.limit-allowed.result c.limit-allowed.ensures c.requires.ranked c.requires.s_lt_state_limit.1;
     }
-
-pub returns : goal.returns
-unfolding holds
-returns c =
-    let p : 0 < get_or c.args.ranks.now c.args.s 0 = positive (get_or c.args.ranks.now c.args.s 0) c.if-own-eq0.false in
-    output_is_byte c.args.g.fair (arena_of c.args.g c.args.transitions.now c.args.accepting.now) c.args.most c.args.ranks.now c.args.s c.args.x p
-    c.has_condition-judged.result c.has_condition-judged.ensures c.limit-allowed.result c.limit-allowed.ensures
-    c.first_output-y.result c.first_output-y.ensures

@@ -6,46 +6,13 @@ use Rattle.plays.specs.Arena.{Arena}
 use Rattle.game.specs.inner.Game.{arena_of}
 use Rattle.game.specs.inner.Wide.{Hopeful, Looks}
 use Rattle.game.proofs.LimitLaws.{zeros}
-use Rattle.game.proofs.WidenLaws.{no_looks, looks_stays, looks_more, looks_over}
+use Rattle.game.proofs.WidenLaws.{no_looks, looks_stays, looks_more}
 use Rattle.game.proofs.wide.first_looks.Goals as goal
 use Rattle.game.proofs.wide.first_looks.Goals.{else-hopeful, then-hopeful}
 
 pub loop-s-init : goal.loop-s-init
 loop-s-init c =
     (search rules, no_looks c.args.limit c.args.system.now c.args.needs.now (replicate state_limit 0) (zeros state_limit), refl)
-
-pub hopeful-requires : goal.hopeful-requires
-hopeful-requires c =
-    record { valid = c.requires.valid; bounds = c.requires.bounds; unranked_beaten = c.requires.unranked_beaten; by_index = c.requires.by_index; s_lt_states = (omega arith, omega (arith, c.requires.valid.moving.states_fit, c.requires.limit_le_states)) }
-
-pub offset_bounds-system-s : goal.offset_bounds-system-s
-offset_bounds-system-s c =
-    let small : c.loop-s.s < state_limit = omega (arith, c.requires.valid.moving.states_fit) in
-    omega (arith, small)
-
-pub bounds-system-s : goal.bounds-system-s
-bounds-system-s c =
-    let small : c.loop-s.s < state_limit = omega (arith, c.requires.valid.moving.states_fit) in
-    omega (arith, small)
-
-pub overflow_add-limit : goal.overflow_add-limit
-overflow_add-limit c =
-    omega (arith, c.requires.valid.moving.states_fit, c.requires.limit_le_states)
-
-pub offset_bounds-due-s : goal.offset_bounds-due-s
-offset_bounds-due-s c =
-    let small : c.loop-s.s < state_limit = omega (arith, c.requires.valid.moving.states_fit) in
-    omega (arith, small)
-
-pub bounds-due-s : goal.bounds-due-s
-bounds-due-s c =
-    let small : c.loop-s.s < state_limit = omega (arith, c.requires.valid.moving.states_fit) in
-    omega (arith, small)
-
-pub overflow_add-s : goal.overflow_add-s
-overflow_add-s c =
-    let small : c.loop-s.s < state_limit = omega (arith, c.requires.valid.moving.states_fit) in
-    omega (arith, small)
 
 -- one more state passed, whichever way the branch went
 pub loop-s-preserved : goal.loop-s-preserved
@@ -66,7 +33,3 @@ loop-s-preserved c =
       | else-hopeful w ↦ subst P (sym w.due-is) (looks_stays c.loop-s.invariant.1 (is _ w.if-hopeful.false), c.loop-s.invariant.2)
     ]) in
     (omega arith, passed.0, passed.1)
-
-pub returns : goal.returns
-returns c =
-    record { looks = looks_over c.loop-s.invariant.1 (omega arith); result_len = c.loop-s.invariant.2 }

@@ -3,16 +3,8 @@
 -- Assumes nothing.
 use Rattle.std.proofs.Common.{get_or}
 use Rattle.reader.proofs.BoolLaws.{positive}
-use Rattle.game.proofs.WidenLaws.{hopeful_lost, hopeful_has, hopeful_by}
+use Rattle.game.proofs.WidenLaws.{hopeful_by}
 use Rattle.game.proofs.wide.hopeful.Goals as goal
-
-pub returns-then-system-s-eq0 : goal.returns-then-system-s-eq0
-returns-then-system-s-eq0 c =
-    hopeful_lost c.requires.valid c.requires.bounds c.requires.unranked_beaten c.requires.by_index c.requires.s_lt_states.0 c.if-system-s-eq0.true
-
-pub returns-then-needs-s-ne0 : goal.returns-then-needs-s-ne0
-returns-then-needs-s-ne0 c =
-    hopeful_has c.requires.valid c.requires.bounds c.requires.unranked_beaten c.requires.by_index c.requires.s_lt_states.0 c.if-needs-s-ne0.true
 
 pub returns : goal.returns
 returns c =

@@ -1,12 +1,8 @@
 -- `game::wide::look` meets its contract: a state that is not due is left, and of one that is due the test on its steps decides.
 -- Assumes nothing.
 use Rattle.std.proofs.Common.{◌+◌, ◌<◌, length, ◌∙◌, arith, length-set}
-use Rattle.game.proofs.WidenLaws.{look_off, look_waits, look_gains}
+use Rattle.game.proofs.WidenLaws.{look_waits, look_gains}
 use Rattle.game.proofs.wide.look.Goals as goal
-
-pub returns-then-when-p : goal.returns-then-when-p
-returns-then-when-p c =
-    record { looked = look_off c.requires.standing c.requires.valid c.requires.s_lt_states.0 c.if-when-p.true; needs_len_2 = c.requires.needs_len }
 
 pub returns-then-opened : goal.returns-then-opened
 returns-then-opened c =

@@ -3,12 +3,8 @@
 -- Assumes nothing.
 use mathlib.Core.Path.{sym, ◌∙◌}
 use native.Mathlib.Omega.{arith}
-use Rattle.listing.proofs.ScanLaws.{begins_start, begins_short, begins_other, begins_more, begins_end}
+use Rattle.listing.proofs.ScanLaws.{begins_short, begins_other, begins_more, begins_end}
 use Rattle.listing.proofs.input.begins_with.Goals as goal
-
-pub loop-k-init : goal.loop-k-init
-loop-k-init c =
-    (omega arith, begins_start c.args.word.now c.args.text.now c.args.at)
 
 pub returns-then-text-at : goal.returns-then-text-at
 returns-then-text-at c =

@@ -1,13 +1,9 @@
 -- `listing::input::line_end` meets its contract. The invariant: the line ends where the line from k on does. The measure is what is left of the text.
 -- Assumes nothing.
-use mathlib.Core.Path.{refl, sym, ◌∙◌}
+use mathlib.Core.Path.{sym, ◌∙◌}
 use native.Mathlib.Omega.{arith}
 use Rattle.listing.proofs.ScanLaws.{end_here, end_later, end_none}
 use Rattle.listing.proofs.input.line_end.Goals as goal
-
-pub loop-k-init : goal.loop-k-init
-loop-k-init c =
-    (c.requires, refl)
 
 pub returns-then-text-k-eq10 : goal.returns-then-text-k-eq10
 returns-then-text-k-eq10 c =

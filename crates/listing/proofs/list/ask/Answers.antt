@@ -4,9 +4,7 @@ use Prim.Native.Nat.{ℕ, ◌≤◌, ◌<◌}
 use mathlib.Core.Path.{sym, subst}
 use native.Mathlib.Omega.{arith}
 use lib.ListN.{length}
-use Rattle.game.specs.Rule.{buffers}
 use Rattle.listing.proofs.RequestLaws.{Digits, request_size, start_fits, ended, rule_ended}
-use Rattle.listing.proofs.PromiseLaws.{asked_parts}
 use Rattle.listing.proofs.list.ask.Goals as goal
 
 pub condition_start-start-requires : goal.condition_start-start-requires
@@ -55,12 +53,3 @@ pub slice_bounds-solve_rule-end-2 : goal.slice_bounds-solve_rule-end-2
 slice_bounds-solve_rule-end-2 c =
     let ends : c.line_end-end.result < length c.args.input.now = ended c.args.input.now c.requires _ _ c.condition_start-start.ensures c.line_end-end.ensures in
     omega (arith, c.line_end-end.ensures, ends)
-
-pub returns : goal.returns
-returns c =
-    asked_parts c.args.input.now _ _ _ _ _ c.mode_of-mode.result
-    (buffers c.args.transitions.now c.args.accepting.now c.args.system.now c.args.environment.now) _
-    c.solve_rule.result
-    c.condition_start-start.ensures c.line_end-end.ensures c.line_end-to.ensures
-    c.digit_at-i.ensures c.digit_at-o.ensures c.mode_of-mode.ensures
-    c.solve_rule.ensures

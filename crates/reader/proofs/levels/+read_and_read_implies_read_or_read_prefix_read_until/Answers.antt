@@ -11,10 +11,6 @@ pub read_and-read_until-q-requires : goal.read_and-read_until-q-requires
 read_and-read_until-q-requires t c =
     lower_ready 1 (c.decreases, c.requires)
 
-pub read_and-level_at-requires : goal.read_and-level_at-requires
-read_and-level_at-requires t c =
-    c.read_until-q.ensures.no_blank
-
 pub read_and-over-requires : goal.read_and-over-requires
 read_and-over-requires t c =
     over_ready 1 (c.decreases, c.requires) c.read_until-q.ensures c.level_at.ensures c.if-level_at-eq2.true
@@ -29,18 +25,10 @@ read_and-put-requires t c =
     put_ready 1 (c.decreases, c.requires) c.read_until-q.ensures c.level_at.ensures c.if-level_at-eq2.true
     c.over.ensures c.read_and-r.ensures (c.read_and-r.auto.out ∙ c.read_until-q.auto.out)
 
-pub read_and-shape_of-out-then-level_at-eq2 : goal.read_and-shape_of-out-then-level_at-eq2
-read_and-shape_of-out-then-level_at-eq2 t c =
-    c.put.auto.out ∙ (c.read_and-r.auto.out ∙ c.read_until-q.auto.out)
-
 pub read_and-returns-then-level_at-eq2 : goal.read_and-returns-then-level_at-eq2
 read_and-returns-then-level_at-eq2 t c =
     joined 1 (c.decreases, c.requires) c.read_until-q.ensures c.level_at.ensures c.if-level_at-eq2.true
     c.over.ensures c.read_and-r.ensures c.put.ensures.result c.put.ensures.stored
-
-pub read_and-shape_of-out : goal.read_and-shape_of-out
-read_and-shape_of-out t c =
-    c.read_until-q.auto.out
 
 pub read_and-returns : goal.read_and-returns
 read_and-returns t c =
@@ -49,10 +37,6 @@ read_and-returns t c =
 pub read_implies-read_or-q-requires : goal.read_implies-read_or-q-requires
 read_implies-read_or-q-requires t c =
     lower_ready 3 (c.decreases, c.requires)
-
-pub read_implies-level_at-requires : goal.read_implies-level_at-requires
-read_implies-level_at-requires t c =
-    c.read_or-q.ensures.no_blank
 
 pub read_implies-over-requires : goal.read_implies-over-requires
 read_implies-over-requires t c =
@@ -68,18 +52,10 @@ read_implies-put-requires t c =
     put_ready 3 (c.decreases, c.requires) c.read_or-q.ensures c.level_at.ensures c.if-level_at-eq4.true
     c.over.ensures c.read_implies-r.ensures (c.read_implies-r.auto.out ∙ c.read_or-q.auto.out)
 
-pub read_implies-shape_of-out-then-level_at-eq4 : goal.read_implies-shape_of-out-then-level_at-eq4
-read_implies-shape_of-out-then-level_at-eq4 t c =
-    c.put.auto.out ∙ (c.read_implies-r.auto.out ∙ c.read_or-q.auto.out)
-
 pub read_implies-returns-then-level_at-eq4 : goal.read_implies-returns-then-level_at-eq4
 read_implies-returns-then-level_at-eq4 t c =
     joined 3 (c.decreases, c.requires) c.read_or-q.ensures c.level_at.ensures c.if-level_at-eq4.true
     c.over.ensures c.read_implies-r.ensures c.put.ensures.result c.put.ensures.stored
-
-pub read_implies-shape_of-out : goal.read_implies-shape_of-out
-read_implies-shape_of-out t c =
-    c.read_or-q.auto.out
 
 pub read_implies-returns : goal.read_implies-returns
 read_implies-returns t c =
@@ -88,10 +64,6 @@ read_implies-returns t c =
 pub read_or-read_and-q-requires : goal.read_or-read_and-q-requires
 read_or-read_and-q-requires t c =
     lower_ready 2 (c.decreases, c.requires)
-
-pub read_or-level_at-requires : goal.read_or-level_at-requires
-read_or-level_at-requires t c =
-    c.read_and-q.ensures.no_blank
 
 pub read_or-over-requires : goal.read_or-over-requires
 read_or-over-requires t c =
@@ -107,18 +79,10 @@ read_or-put-requires t c =
     put_ready 2 (c.decreases, c.requires) c.read_and-q.ensures c.level_at.ensures c.if-level_at-eq3.true
     c.over.ensures c.read_or-r.ensures (c.read_or-r.auto.out ∙ c.read_and-q.auto.out)
 
-pub read_or-shape_of-out-then-level_at-eq3 : goal.read_or-shape_of-out-then-level_at-eq3
-read_or-shape_of-out-then-level_at-eq3 t c =
-    c.put.auto.out ∙ (c.read_or-r.auto.out ∙ c.read_and-q.auto.out)
-
 pub read_or-returns-then-level_at-eq3 : goal.read_or-returns-then-level_at-eq3
 read_or-returns-then-level_at-eq3 t c =
     joined 2 (c.decreases, c.requires) c.read_and-q.ensures c.level_at.ensures c.if-level_at-eq3.true
     c.over.ensures c.read_or-r.ensures c.put.ensures.result c.put.ensures.stored
-
-pub read_or-shape_of-out : goal.read_or-shape_of-out
-read_or-shape_of-out t c =
-    c.read_and-q.auto.out
 
 pub read_or-returns : goal.read_or-returns
 read_or-returns t c =
@@ -141,10 +105,6 @@ read_prefix-over-s-requires t c =
     close_ready _ c.over-q.ensures (sym c.is_open.ensures ∙ c.if-is_open.true)
     c.requires c.read_implies-r.ensures
 
-pub read_prefix-shape_of-out-then-is_open : goal.read_prefix-shape_of-out-then-is_open
-read_prefix-shape_of-out-then-is_open t c =
-    c.read_implies-r.auto.out
-
 pub read_prefix-returns-then-is_open : goal.read_prefix-returns-then-is_open
 read_prefix-returns-then-is_open t c =
     wrapped _ c.over-q.ensures (sym c.is_open.ensures ∙ c.if-is_open.true)
@@ -159,10 +119,6 @@ read_prefix-put-requires t c =
     prefix_ready _ c.over-q.ensures (sym c.is_prefix.ensures ∙ c.if-is_prefix.true)
     c.requires c.read_prefix-r.ensures c.read_prefix-r.auto.out
 
-pub read_prefix-shape_of-out-then-is_prefix : goal.read_prefix-shape_of-out-then-is_prefix
-read_prefix-shape_of-out-then-is_prefix t c =
-    c.put.auto.out ∙ c.read_prefix-r.auto.out
-
 pub read_prefix-returns-then-is_prefix : goal.read_prefix-returns-then-is_prefix
 read_prefix-returns-then-is_prefix t c =
     prefixed _ c.over-q.ensures (sym c.is_prefix.ensures ∙ c.if-is_prefix.true)
@@ -172,10 +128,6 @@ pub read_prefix-put-requires-2 : goal.read_prefix-put-requires-2
 read_prefix-put-requires-2 t c =
     operand_ready _ c.over-q.ensures c.requires
 
-pub read_prefix-shape_of-out : goal.read_prefix-shape_of-out
-read_prefix-shape_of-out t c =
-    c.put-2.auto.out
-
 pub read_prefix-returns : goal.read_prefix-returns
 read_prefix-returns t c =
     single _ c.over-q.ensures (sym c.is_open.ensures ∙ c.if-is_open.false)
@@ -184,10 +136,6 @@ read_prefix-returns t c =
 pub read_until-read_prefix-q-requires : goal.read_until-read_prefix-q-requires
 read_until-read_prefix-q-requires t c =
     lower_ready 0 (c.decreases, c.requires)
-
-pub read_until-level_at-requires : goal.read_until-level_at-requires
-read_until-level_at-requires t c =
-    c.read_prefix-q.ensures.no_blank
 
 pub read_until-over-requires : goal.read_until-over-requires
 read_until-over-requires t c =
@@ -203,18 +151,10 @@ read_until-put-requires t c =
     put_ready 0 (c.decreases, c.requires) c.read_prefix-q.ensures c.level_at.ensures c.if-level_at-eq1.true
     c.over.ensures c.read_until-r.ensures (c.read_until-r.auto.out ∙ c.read_prefix-q.auto.out)
 
-pub read_until-shape_of-out-then-level_at-eq1 : goal.read_until-shape_of-out-then-level_at-eq1
-read_until-shape_of-out-then-level_at-eq1 t c =
-    c.put.auto.out ∙ (c.read_until-r.auto.out ∙ c.read_prefix-q.auto.out)
-
 pub read_until-returns-then-level_at-eq1 : goal.read_until-returns-then-level_at-eq1
 read_until-returns-then-level_at-eq1 t c =
     joined 0 (c.decreases, c.requires) c.read_prefix-q.ensures c.level_at.ensures c.if-level_at-eq1.true
     c.over.ensures c.read_until-r.ensures c.put.ensures.result c.put.ensures.stored
-
-pub read_until-shape_of-out : goal.read_until-shape_of-out
-read_until-shape_of-out t c =
-    c.read_prefix-q.auto.out
 
 pub read_until-returns : goal.read_until-returns
 read_until-returns t c =

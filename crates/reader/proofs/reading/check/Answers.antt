@@ -1,14 +1,10 @@
 -- `reader::reading::check` meets its contract: each answer follows from the length, from what the pass came to and from the two counts. Assumes nothing.
-use mathlib.Core.Path.{◌≡◌, sym, subst, ◌∙◌}
-use mathlib.Core.Bool.{true, false}
+use mathlib.Core.Path.{sym, subst, ◌∙◌}
 use Prim.Native.Nat.{ℕ}
 use native.Mathlib.Omega.{arith}
 use Rattle.reader.specs.declared.reading.Reading.TheVariants.{Good}
-use Rattle.reader.specs.declared.scan.Scanned.TheVariants.{Whole}
-use Rattle.reader.specs.Limits.{too_long}
 use Rattle.reader.specs.Marks.{kind_in}
 use Rattle.reader.specs.Reading.{ReadingOf}
-use Rattle.reader.specs.inner.Scan.{scan_of}
 use Rattle.reader.proofs.ReadingLaws.{long_reading, bad_reading, many_nodes_reading, many_operators_reading, good_reading}
 use Rattle.reader.proofs.reading.check.Goals as goal
 
@@ -18,28 +14,21 @@ returns-then-too_long c =
 
 pub returns-then-n-gt-NODE_LIMIT : goal.returns-then-n-gt-NODE_LIMIT
 returns-then-n-gt-NODE_LIMIT c =
-    let fits : too_long c.args.text.now ≡ false = sym c.too_long.ensures ∙ c.if-too_long.false in
-    let whole : scan_of (kind_in c.args.i c.args.o c.args.temporal) c.args.text.now 0 true 0 ≡ Whole = sym c.scan-found.ensures ∙ c.in-Whole.is in
-    many_nodes_reading c.args.i c.args.o c.args.temporal c.args.text.now fits whole (omega (arith, c.if-n-gt-NODE_LIMIT.true, c.count-n.ensures))
+    many_nodes_reading c.args.i c.args.o c.args.temporal c.args.text.now (sym c.too_long.ensures ∙ c.if-too_long.false) (sym c.scan-found.ensures ∙ c.in-Whole.is) (omega (arith, c.if-n-gt-NODE_LIMIT.true, c.count-n.ensures))
 
 pub returns-then-count-gt-OPERATOR_LIMIT : goal.returns-then-count-gt-OPERATOR_LIMIT
 returns-then-count-gt-OPERATOR_LIMIT c =
-    let fits : too_long c.args.text.now ≡ false = sym c.too_long.ensures ∙ c.if-too_long.false in
-    let whole : scan_of (kind_in c.args.i c.args.o c.args.temporal) c.args.text.now 0 true 0 ≡ Whole = sym c.scan-found.ensures ∙ c.in-Whole.is in
-    many_operators_reading c.args.i c.args.o c.args.temporal c.args.text.now fits whole
+    many_operators_reading c.args.i c.args.o c.args.temporal c.args.text.now (sym c.too_long.ensures ∙ c.if-too_long.false) (sym c.scan-found.ensures ∙ c.in-Whole.is)
     (omega (arith, c.if-n-gt-NODE_LIMIT.false, c.count-n.ensures))
     (omega (arith, c.if-count-gt-OPERATOR_LIMIT.true, c.count.ensures))
 
 pub returns-in-Stopped : goal.returns-in-Stopped
 returns-in-Stopped c =
-    let fits : too_long c.args.text.now ≡ false = sym c.too_long.ensures ∙ c.if-too_long.false in
-    bad_reading c.args.i c.args.o c.args.temporal c.args.text.now fits _ (sym c.scan-found.ensures ∙ c.in-Stopped.is)
+    bad_reading c.args.i c.args.o c.args.temporal c.args.text.now (sym c.too_long.ensures ∙ c.if-too_long.false) _ (sym c.scan-found.ensures ∙ c.in-Stopped.is)
 
 pub returns-else-count-gt-OPERATOR_LIMIT : goal.returns-else-count-gt-OPERATOR_LIMIT
 returns-else-count-gt-OPERATOR_LIMIT c =
-    let fits : too_long c.args.text.now ≡ false = sym c.too_long.ensures ∙ c.if-too_long.false in
-    let whole : scan_of (kind_in c.args.i c.args.o c.args.temporal) c.args.text.now 0 true 0 ≡ Whole = sym c.scan-found.ensures ∙ c.in-Whole.is in
     subst (λ (n : ℕ). ReadingOf c.args.i (kind_in c.args.i c.args.o c.args.temporal) c.args.text.now (Good n)) (sym c.count-n.ensures)
-    (good_reading c.args.i c.args.o c.args.temporal c.args.text.now fits whole
+    (good_reading c.args.i c.args.o c.args.temporal c.args.text.now (sym c.too_long.ensures ∙ c.if-too_long.false) (sym c.scan-found.ensures ∙ c.in-Whole.is)
     (omega (arith, c.if-n-gt-NODE_LIMIT.false, c.count-n.ensures))
     (omega (arith, c.if-count-gt-OPERATOR_LIMIT.false, c.count.ensures)))

@@ -1,6 +1,5 @@
 -- `reader::reading::read_into` meets its contract: the answer is that of `check`, and where it is good the reading functions write the nodes. Assumes nothing.
 use mathlib.Core.Path.{refl}
-use Rattle.reader.specs.inner.Nodes.{Written}
 use Rattle.reader.proofs.ReadingLaws.{same_reading, ready, written}
 use Rattle.reader.proofs.reading.read_into.Goals as goal
 
@@ -17,23 +16,3 @@ returns-in-Good c =
       nodes = written c.args.i c.args.o c.args.temporal c.args.text.now _ c.skip.ensures refl refl _ _ _ _
           c.read_implies.ensures;
     }
-
-pub returns-in-TooLong : goal.returns-in-TooLong
-unfolding Written
-returns-in-TooLong c =
-    record { reading = same_reading c.args.i c.args.o c.args.temporal c.args.text.now c.in-TooLong.is c.check-found.ensures; nodes = refl }
-
-pub returns-in-Bad : goal.returns-in-Bad
-unfolding Written
-returns-in-Bad c =
-    record { reading = same_reading c.args.i c.args.o c.args.temporal c.args.text.now c.in-Bad.is c.check-found.ensures; nodes = refl }
-
-pub returns-in-TooManyNodes : goal.returns-in-TooManyNodes
-unfolding Written
-returns-in-TooManyNodes c =
-    record { reading = same_reading c.args.i c.args.o c.args.temporal c.args.text.now c.in-TooManyNodes.is c.check-found.ensures; nodes = refl }
-
-pub returns-in-TooManyOperators : goal.returns-in-TooManyOperators
-unfolding Written
-returns-in-TooManyOperators c =
-    record { reading = same_reading c.args.i c.args.o c.args.temporal c.args.text.now c.in-TooManyOperators.is c.check-found.ensures; nodes = refl }

@@ -7,10 +7,6 @@ use lib.ListN.{length}
 use Rattle.reader.proofs.SizeLaws.{count_at, count_end}
 use Rattle.reader.proofs.size.count.Goals as goal
 
-pub overflow_add-n : goal.overflow_add-n
-overflow_add-n c =
-    omega (arith, c.weight-n.ensures.small)
-
 pub loop-at-preserved : goal.loop-at-preserved
 loop-at-preserved c =
     let h : c.loop-at.at < length c.args.text.now = omega arith in

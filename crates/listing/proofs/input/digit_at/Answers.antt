@@ -1,8 +1,0 @@
--- `listing::input::digit_at` meets its contract.
--- Assumes nothing.
-use native.Mathlib.Omega.{arith}
-use Rattle.listing.proofs.input.digit_at.Goals as goal
-
-pub overflow_cast-result : goal.overflow_cast-result
-overflow_cast-result c =
-    omega (arith, c.shared_slice_known-1.given c.args.k)

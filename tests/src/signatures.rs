@@ -243,6 +243,24 @@ impl Reader {
         tokens
     }
 
+    /// Goes over the generic parameters that begin here, if any; `->` is a token of its own and closes none.
+    fn pass_generics(&mut self) {
+        if self.peek() != "<" {
+            return;
+        }
+        let mut depth = 0;
+        loop {
+            match self.some().as_str() {
+                "<" => depth += 1,
+                ">" => depth -= 1,
+                _ => {}
+            }
+            if depth == 0 {
+                return;
+            }
+        }
+    }
+
     /// The items up to a closing brace or the end; `open` where all functions are public, as in `impl Trait for`.
     fn items(&mut self, path: &str, open: bool, found: &mut Vec<Function>) {
         let mut public = open;
@@ -290,8 +308,8 @@ impl Reader {
     /// The function whose `fn` was just read, with its body passed over.
     fn function(&mut self, path: &str) -> Function {
         let path = format!("{path}::{}", self.some());
-        self.until(&["("]);
-        self.some();
+        self.pass_generics();
+        assert!(self.some() == "(", "{path}: no parenthesis behind the name");
         let parameters = parameters(&self.inside(Code));
         let mut returns = String::new();
         if self.peek() == "->" {

@@ -16,14 +16,17 @@ const PROMISES: &[Row] = &[
     ("reader::reading::too_long", &["too_long"]),
     ("reader::reading::check", &["ReadingOf"]),
     ("reader::reading::read", &["ReadingOf", "Written"]),
-    ("reader::refusal::text_refusal", &["after_text subject reading Nothing"]),
-    ("reader::refusal::number_of", &["number_of"]),
-    ("reader::refusal::place_of", &["place_of"]),
-    ("reader::refusal::needed_of", &["needed_of"]),
+    ("reader::vocabulary::Vocabulary::of", &["vocabulary_of"]),
+    ("reader::refusal::Unreadable::refusal", &["text_refusal subject self"]),
+    ("reader::refusal::Refusal::number", &["number_of"]),
+    ("reader::refusal::Refusal::place", &["place_of"]),
+    ("reader::refusal::Refusal::needed", &["needed_of"]),
     ("automaton::alphabet::bad_alphabet", &["bad_alphabet"]),
     ("automaton::alphabet::power", &["cond (leb k (2 * name_limit)) (2 ^ k) 0"]),
-    ("automaton::alphabet::first_over", &["first_over"]),
-    ("automaton::bytes::wide", &["b"]),
+    (
+        "automaton::alphabet::first_over",
+        &["MatchOption result (first_over bound bytes.now ≡ length bytes.now) (λ k. (k ≡ first_over bound bytes.now) × (k < length bytes.now))"],
+    ),
     ("automaton::construct::construct", &["Constructed"]),
     ("automaton::condition::read_condition", &["Conditioned"]),
     ("automaton::trial::try_rule", &["Tried"]),
@@ -183,6 +186,7 @@ fn good_contracts_pass() {
          ensures { P x.now y.new result } // more\n{ 0 }",
         "pub const fn f(x_y: u8) -> u8 ensures { P «x_y» {- } -} result -- } requires\n } { 0 }",
         "pub fn f(x: &mut u8)\n    ensures { x.new ≡ P x.old }\n{\n    *x += 1;\n}\n",
+        "pub fn f<'a, F: Fn(u64) -> Option<u8>>(x: F) -> &'a u8 ensures { P x result } { x(0) }",
         "pub(crate) fn g() -> u8 { 1 }\nfn h(x: u8) -> u8 requires { x ≡ x } { x }\npub fn f() -> u8 ensures { P result } { 0 }",
     ];
     for source in sources {
@@ -210,6 +214,8 @@ fn functions_without_a_contract_are_seen() {
     }
     let method = "pub struct T { pub x: u8 }\nimpl T {\n    pub fn h(self) -> u8 {\n        self.x\n    }\n}\n";
     assert_eq!(seen(method, &[("m::T::h", &["P"])]).len(), 3);
+    let generic = "impl<'a> T<'a> {\n    pub fn h<F: Fn(u64) -> bool>(&self, x: F) -> u8 { 0 }\n}\n";
+    assert_eq!(seen(generic, &[("m::T::h", &["P"])]).len(), 4);
     let module = "mod inner {\n    pub fn f(x: u8) -> u8 { x }\n}\n";
     assert_eq!(seen(module, &[("m::inner::f", &["P"])]).len(), 3);
     let through_a_trait = "impl Named for T {\n    fn h(x: u8) -> u8 { x }\n}\n";

@@ -137,15 +137,29 @@ fn in_capitals(name: &str) -> String {
     letters.collect::<String>().to_uppercase()
 }
 
-/// The cases of `number_of` with their numbers, by their names in C.
+/// The equations of a definition: what stands behind its name, and behind the sign.
+fn equations<'a>(definitions: &'a str, name: &str) -> Vec<(&'a str, &'a str)> {
+    let after = |line: &'a str| line.strip_prefix(name)?.strip_prefix(' ')?.split_once(" = ");
+    definitions.lines().filter_map(after).collect()
+}
+
+/// The one number that a definition has where nothing is refused.
+fn served(definitions: &str, name: &str, pattern: &str) -> usize {
+    let found: Vec<_> = equations(definitions, name).into_iter().filter(|(case, _)| *case == pattern).collect();
+    let [(_, number)] = found[..] else { panic!("{name} {pattern}: {found:?}") };
+    number.parse().unwrap()
+}
+
+/// The cases of `number_of` with their numbers, by their names in C, and what a served call has: where no refusal comes first,
+/// and as an answer that is none.
 fn numbers(definitions: &str) -> BTreeSet<(String, usize)> {
-    let equations = definitions.lines().filter_map(|line| line.strip_prefix("number_of ")?.split_once(" = "));
     let case = |pattern: &str| pattern.trim_matches(['(', ')']).split(' ').next().unwrap().to_string();
-    let named = |name: &str| match name {
-        "Nothing" => "AIRTABLE_SERVED".to_string(),
-        _ => format!("AIRTABLE_REFUSED_{}", in_capitals(name)),
-    };
-    equations.map(|(pattern, number)| (named(&case(pattern)), number.parse().unwrap())).collect()
+    let refused = equations(definitions, "number_of").into_iter().map(|(pattern, number)| {
+        (format!("AIRTABLE_REFUSED_{}", in_capitals(&case(pattern))), number.parse().unwrap())
+    });
+    let unrefused = [("first_number", "None"), ("answer_number", "(Ok t)")];
+    let served = unrefused.map(|(name, pattern)| ("AIRTABLE_SERVED".to_string(), served(definitions, name, pattern)));
+    refused.chain(served).collect()
 }
 
 /// The names of the returned numbers in a header.
@@ -164,6 +178,11 @@ fn refusals_have_their_numbers() {
     assert_eq!(wanted.iter().map(|(_, number)| *number).collect::<BTreeSet<_>>(), all);
     assert!(wanted.contains(&("AIRTABLE_REFUSED_CONDITION_TEXT".into(), 7)));
     assert!(wanted.contains(&("AIRTABLE_REFUSED_UNSATISFIABLE".into(), 15)));
+    assert!(wanted.contains(&("AIRTABLE_SERVED".into(), 0)));
+    for old in ["first_number None = 0\n", "answer_number (Ok t) = 0\n"] {
+        assert_eq!(definitions.matches(old).count(), 1, "{old}");
+        assert_ne!(refusals(&text), numbers(&definitions.replace(old, &old.replace(" = 0", " = 16"))));
+    }
     let swapped = text.replace("RULE_NODES 5", "RULE_NODES 6").replace("RULE_OPERATORS 6", "RULE_OPERATORS 5");
     assert_ne!(refusals(&swapped), wanted);
     for line in ["#define AIRTABLE_REFUSED_MOVE 11\n", "#define AIRTABLE_REFUSED_UNSATISFIABLE 15\n"] {

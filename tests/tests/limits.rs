@@ -17,8 +17,8 @@ const LIMITS: &[Row] = &[
     ("255", "game/src/limits.rt", "NO_MOVE"),
     ("255", "reader/specs/Limits.antt", "text_limit"),
     ("255", "reader/src/limits.rt", "TEXT_LIMIT"),
-    ("256", "reader/specs/inner/Nodes.antt", "field_size"),
-    ("256", "reader/src/limits.rt", "FIELD_SIZE"),
+    // no limit: how many numbers a byte has
+    ("256", "game/src/tables.rt", "requires"),
     ("64", "automaton/specs/inner/Sizes.antt", "word_bits"),
     ("64", "automaton/src/bits.rt", "WORD_BITS"),
     ("64", "reader/specs/Limits.antt", "node_limit"),

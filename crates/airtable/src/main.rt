@@ -4,26 +4,20 @@
 
 use listing::limits::{INPUT_SIZE, OUTPUT_SIZE};
 use listing::respond::respond;
+use std::io;
 use std::io::Read;
 
-// What came of reading: so many bytes, or a failure.
-#[derive(Clone, Copy)]
-enum Received {
-    Bytes(usize),
-    Failed,
-}
-
-// Reads to the end, or until the buffer is full. One read that fails, or that a signal interrupts, is a failure, whatever came before it.
-fn receive<R: Read>(reader: &mut R, input: &mut [u8]) -> Received {
+// Reads to the end, or until the buffer is full, and returns how many bytes that is. One read that fails, or that a signal interrupts, is a failure,
+// whatever came before it: so no method of the library does, since those read again after a signal.
+fn receive<R: Read>(reader: &mut R, input: &mut [u8]) -> io::Result<usize> {
     let mut done: usize = 0;
     while done < input.len() {
-        match reader.read(&mut input[done..]) {
-            Ok(0) => return Received::Bytes(done),
-            Ok(more) => done += more,
-            Err(_) => return Received::Failed,
+        match reader.read(&mut input[done..])? {
+            0 => break,
+            more => done += more,
         }
     }
-    Received::Bytes(done)
+    Ok(done)
 }
 
 // Prints the answer to the first `got` bytes.
@@ -35,12 +29,12 @@ fn answer(rt: &(impl Print + Eprint), input: &[u8; INPUT_SIZE], got: usize) {
     }
 }
 
+// Reads the input and answers it, or says that it could not be read.
 fn main(rt: HostRuntime) {
     let mut input = [0u8; INPUT_SIZE];
-    let received = receive(&mut rt.stdin(), &mut input);
-    match received {
-        Received::Bytes(got) => answer(&rt, &input, got),
-        Received::Failed => {
+    match receive(&mut rt.stdin(), &mut input) {
+        Ok(got) => answer(&rt, &input, got),
+        Err(_) => {
             let _ = eprintln!(rt; "airtable: cannot read standard input");
         }
     }

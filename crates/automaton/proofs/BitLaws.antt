@@ -4,19 +4,25 @@ use mathlib.Core.Path.{◌≡◌, refl, sym, ap, ap₂, ◌∙◌, subst}
 use mathlib.Core.Bool.{Bool, true, false, not, ◌&&◌, ◌||◌}
 use mathlib.Core.List.{List}
 use mathlib.Core.Logic.{⊎_elim}
-use native.Mathlib.Nat.{mul-add-mod_self_right, mod-eq_of_lt, pow-suc, mul_comm, mul_assoc, add-mul, add_comm, add-zero, add-suc, le_refl, lt_of_lt_of_le}
+use native.Mathlib.Nat.{mul-add-mod_self_right, mod-eq_of_lt, pow-suc, mul_comm, mul_assoc, add-mul, add_comm, add-zero, add-suc, le_refl, lt_of_lt_of_le, mul-lt-mul_of_pos_right}
 use native.Mathlib.Nat.{le_of_suc-le-suc, not-suc-le-zero, eq-or-lt_of_le, le_step, add-mul-div_right, add-mul-mod_self_right, div-eq_of_lt}
 use native.Mathlib.Nat.{div-lt_iff_lt-mul}
 use native.Mathlib.Omega.{arith}
-use native.Mathlib.Numerals.{add-one}
 use lib.Dec.{eqb}
 use borrow.Author.Tests.{eqb-false}
 use lib.ListN.{length, get_or}
 use lib.Arith.{digits_lt}
 use lib.Bits.{bit_and, bit_or, bit_xor, and_block, or_block, xor_block, or_shifted_r}
 use lib.Pow.{pow_pos, pow_mono, pow-add, high, shl_exact}
+use Rattle.reader.specs.Limits.{operator_limit}
+use mir.Val.{bool_byte}
 use Rattle.automaton.specs.Bits.{bit, one, of_bits, gather}
 use Rattle.automaton.specs.inner.Sizes.{coordinate_limit, vector_limit, pair_limit, word_bits}
+
+-- a bool as the code makes a number of it
+pub byte_one : (b : Bool) → bool_byte b ≡ one b
+byte_one true = refl
+byte_one false = refl
 
 pub one_lt : (b : Bool) → one b < 2
 one_lt true = omega arith
@@ -142,21 +148,6 @@ of_bits_not f (suc n) =
     xor_block n (one (f n)) 1 (of_bits f n) (of_bits (λ k. true) n) (of_bits_lt f n) (of_bits_lt (λ k. true) n)
     ∙ ap₂ (λ (x y : ℕ). x * 2 ^ n + y) (one_xor (f n)) (of_bits_not f n)
 
--- one more bit, set as the code sets it
-pub of_bits_suc : (f : ℕ → Bool) (n : ℕ) → bit_or (of_bits f n) (one (f n) * 2 ^ n) ≡ of_bits f (suc n)
-unfolding of_bits
-of_bits_suc f n = or_shifted_r (one (f n)) n (of_bits f n) (of_bits_lt f n)
-
--- a bit as a number
-pub bit_one : (x k : ℕ) → x / 2 ^ k % 2 ≡ one (bit x k)
-unfolding bit
-bit_one x k = digit (x / 2 ^ k % 2) (omega arith)
-  where
-    digit : (d : ℕ) → d < 2 → d ≡ one (eqb d 1)
-    digit zero h = refl
-    digit (suc zero) h = refl
-    digit (suc (suc d)) h = absurd (not-suc-le-zero (le_of_suc-le-suc (le_of_suc-le-suc h)))
-
 -- ---- a list as a number
 pub gather_lt : (bs : List Bool) → gather bs < 2 ^ length bs
 unfolding gather
@@ -168,24 +159,19 @@ bit_gather bs k h = bit_of_bits (λ j. get_or bs j false) (length bs) k h
 
 -- ---- what the code's shifts do
 
--- `x | (b << k)`, for an x with bits below k only
-pub set_shifted : (x k b : ℕ) → k < word_bits → b < 2 → x < 2 ^ k → bit_or x (b * 2 ^ k % 2 ^ 64) ≡ b * 2 ^ k + x
-set_shifted x k b hk hb hx = ap (bit_or x) (shl_exact 1 k word_bits hb (omega arith)) ∙ or_shifted_r b k x hx
+-- `x | (bits << k)`, for an x with bits below k only, where nothing is shifted out
+pub set_shifted : (x k bits : ℕ) → bits * 2 ^ k < 2 ^ word_bits → x < 2 ^ k → bit_or x (bits * 2 ^ k % 2 ^ 64) ≡ bits * 2 ^ k + x
+set_shifted x k bits h hx = ap (bit_or x) (mod-eq_of_lt h) ∙ or_shifted_r bits k x hx
 
--- `x | ((3 * b) << (2 * k))`, for an x with bits below 2 * k only
-pub set_pair_shifted : (x k b : ℕ) → 2 * k < word_bits → b < 2 → x < 2 ^ (2 * k) → bit_or x (3 * b * 2 ^ (2 * k) % 2 ^ 64) ≡ 3 * b * 2 ^ (2 * k) + x
-set_pair_shifted x k b hk hb hx = ap (bit_or x) (shl_exact 2 (2 * k) word_bits (omega arith) (omega arith)) ∙ or_shifted_r (3 * b) (2 * k) x hx
+-- j bits from bit k on stay within a word
+pub shift_fits : (j k bits : ℕ) → bits < 2 ^ j → j + k ≤ word_bits → bits * 2 ^ k < 2 ^ word_bits
+shift_fits j k bits h fits = lt_of_lt_of_le (subst (λ (m : ℕ). bits * 2 ^ k < m) (sym (pow-add 2 j k)) (mul-lt-mul_of_pos_right h (pow_pos k))) (pow_mono fits)
 
 -- no valuation has a coordinate beyond the limit
 pub no_coordinate : (j : ℕ) → coordinate_limit ≤ j → of_bits (λ v. bit v j) vector_limit ≡ 0
 no_coordinate j h = of_bits_none (λ v. bit v j) vector_limit (λ v l. bit_high v coordinate_limit j l h)
 
--- the turn of a loop that makes a word: bit n, as a number, is put above the bits below n
-pub of_bits_step : (f : ℕ → Bool) (n x b : ℕ) → x ≡ of_bits f n → b ≡ one (f n) → b * 2 ^ n + x ≡ of_bits f (n + 1)
-unfolding of_bits
-of_bits_step f n x b ex eb = ap₂ (λ (y z : ℕ). y * 2 ^ n + z) eb ex ∙ ap (of_bits f) (sym (add-one n))
-
--- the same with two bits at once, where the bits 2 * k and 2 * k + 1 are both f k
+-- two bits more, where the bits 2 * k and 2 * k + 1 are both f k
 pub pair_step : (f : ℕ → Bool) (k x b : ℕ) → x ≡ of_bits (λ v. f (v / 2)) (2 * k)
     → b ≡ one (f k) → 3 * b * 2 ^ (2 * k) + x ≡ of_bits (λ v. f (v / 2)) (2 * (k + 1))
 unfolding of_bits
@@ -210,14 +196,6 @@ same_false b e = sym (of_bits_none (λ v. b) vector_limit (λ k l. e))
 pub same_true : (b : Bool) → b ≡ true → 0xFFFF_FFFF_FFFF_FFFF ≡ of_bits (λ v. b) vector_limit
 same_true b e = omega (arith, of_bits_others (λ v. b) vector_limit, of_bits_none (λ v. not b) vector_limit (λ k l. ap not e))
 
-pub one_true : (b : Bool) → one b ≡ 1 → b ≡ true
-one_true true e = refl
-one_true false e = absurd (let z : ⊥ = omega arith in z)
-
-pub one_false : (b : Bool) → (one b ≡ 1 → ⊥) → b ≡ false
-one_false true f = absurd (f refl)
-one_false false f = refl
-
 -- `1 << w`
 pub one_shifted : (w : ℕ) → w ≤ coordinate_limit → 1 * 2 ^ w % 2 ^ 64 ≡ 2 ^ w
 one_shifted w h = shl_exact 1 w word_bits (omega arith) (omega arith) ∙ omega arith
@@ -228,10 +206,9 @@ half_few w h =
     let few : 2 ^ w ≤ vector_limit = pow_mono {i = w} {j = coordinate_limit} h in
     omega (arith, one_shifted w h)
 
-pub half_shifted : (w n : ℕ) → w ≤ coordinate_limit → w ≡ suc n → 1 * 2 ^ w % 2 ^ 64 / 2 ≡ 2 ^ n
-half_shifted w n h e =
-    let double : 2 ^ w ≡ 2 ^ n * 2 = ap (λ (i : ℕ). 2 ^ i) e ∙ pow-suc 2 n in
-    omega (arith, one_shifted w h)
+-- the pairs of valuations
+pub pairs_few : (w : ℕ) → w ≤ coordinate_limit → 2 ^ (w - 1) ≤ pair_limit
+pairs_few w h = pow_mono {i = w - 1} {j = operator_limit} (omega arith)
 
 -- the low bits of a word
 pub of_bits_mod : (f : ℕ → Bool) (n k : ℕ) → k ≤ n → of_bits f n % 2 ^ k ≡ of_bits f k

@@ -4,29 +4,28 @@ use Prim.Native.Nat.{ℕ, ◌<◌, ◌^◌}
 use mathlib.Core.Path.{◌≡◌, refl, sym, ap, ◌∙◌, subst}
 use mathlib.Core.Bool.{Bool, true, false, cond}
 use mathlib.Core.List.{List, [], ◌∷◌}
-use mathlib.Core.Logic.{◌↔◌, ⊎_elim}
+use mathlib.Core.Logic.{◌↔◌}
 use native.Mathlib.Omega.{arith}
 use lib.Dec.{eqb}
 use borrow.Author.Tests.{eqb-true}
-use Rattle.reader.specs.declared.reading.Reading.{Reading}
-use Rattle.reader.specs.declared.reading.Reading.TheVariants.{Good}
+use Rattle.std.specs.Prelude.{Some, None, Ok, Err}
+use Rattle.reader.specs.declared.refusal.Subject.TheVariants.{Condition}
 use Rattle.reader.specs.declared.refusal.Refusal.{Refusal}
-use Rattle.reader.specs.declared.refusal.Refusal.TheVariants.{Nothing, Alphabet, TextLength, StateCount, Unsatisfiable}
-use Rattle.reader.specs.Limits.{too_long}
+use Rattle.reader.specs.declared.refusal.Refusal.TheVariants.{StateCount, Unsatisfiable}
 use Rattle.reader.specs.Formula.{Formula, size, operators}
 use Rattle.reader.specs.Marks.{condition_kind}
-use Rattle.reader.specs.Reading.{ReadingOf, IsGood}
-use Rattle.reader.specs.Refusal.{is_nothing, after_condition}
-use Rattle.reader.proofs.BoolLaws.{on, clash, not_true_is_false}
-use Rattle.reader.proofs.RefusalLaws.{differs, something, NotGood, good_or_not, Refuses, condition_refused}
+use Rattle.reader.specs.Reading.{Reading, ReadingOf, IsGood}
+use Rattle.reader.specs.Refusal.{text_refusal}
+use Rattle.reader.proofs.BoolLaws.{clash, not_true_is_false}
+use Rattle.reader.proofs.RefusalLaws.{differs, Refuses, text_refused}
 use Rattle.reader.proofs.StaticLaws.{static}
 use Rattle.reader.proofs.Unambiguous.{one_formula, some_reading, one_reading}
-use Rattle.automaton.specs.declared.condition.Assumption.TheVariants.{Mask, Refused}
-use Rattle.automaton.specs.Alphabet.{bad_alphabet}
 use Rattle.automaton.specs.Bits.{bit, of_bits}
 use Rattle.automaton.specs.Trace.{Satisfies}
 use Rattle.automaton.specs.Valuation.{value}
 use Rattle.automaton.specs.Condition.{mask_of, Judges, NoneSatisfies, after_assumption, condition_refusal, Conditioned}
+use Rattle.reader.specs.declared.nodes.Node.{Node}
+use Rattle.automaton.specs.inner.Opening.{Unopened, Opened}
 use Rattle.automaton.proofs.BitLaws.{bit_of_bits, of_bits_none, bit_zero}
 use Rattle.automaton.proofs.Meaning.{value_satisfies}
 
@@ -47,42 +46,20 @@ mask_empty κ i e = (
       (λ x h. not_true_is_false (value κ 1 x 0) (λ t. none x h ((value_satisfies κ x 0 e).0 t))),
 )
 
--- a condition's reading that is not good, or a condition that no input number satisfies, is refused by itself, and never by 9
-ungood_refused : (κ : Reading) (none : Bool) → NotGood κ → Refuses (λ k later. after_assumption k none later) κ
-ungood_refused κ none h =
-    let f = condition_refused κ h in
-    let same = f.first (cond none Unsatisfiable Nothing) in
-    record {
-      first = λ later. f.first (cond none Unsatisfiable later) ∙ sym same;
-      is_refused = ap is_nothing same ∙ f.is_refused;
-      not_count = λ z. f.not_count (sym same ∙ z);
-    }
-
-good_refused : (m : ℕ) (none : Bool) → is_nothing (after_assumption (Good m) none Nothing) ≡ false → Refuses (λ k later. after_assumption k none later) (Good m)
-good_refused m true e = record { first = λ later. refl; is_refused = refl; not_count = differs Unsatisfiable StateCount (λ z. omega arith) }
-good_refused m false e = absurd (mathlib.Core.Bool.true≢false e)
-
-pub assumption_refused : (κ : Reading) (none : Bool) → is_nothing (after_assumption κ none Nothing) ≡ false → Refuses (λ k later. after_assumption k none later) κ
-assumption_refused κ none e =
-    ⊎_elim
-    (λ g.
-    subst (λ (k : Reading). Refuses (λ l later. after_assumption l none later) k) (sym g.1)
-    (good_refused g.0 none (subst (λ (k : Reading). is_nothing (after_assumption k none Nothing) ≡ false) g.1 e)))
-    (ungood_refused κ none)
-    (good_or_not κ)
+-- a reading and a test of it that are refused are refused by the same whatever comes later, and not by 9
+pub assumption_refused : (κ : Reading) (none : Bool) (x : Refusal) → after_assumption κ none None ≡ Some x
+    → Refuses (λ k later. after_assumption k none later) κ x
+assumption_refused (Ok n) true x e =
+    record { first = λ later. e; not_count = λ z. let q : Unsatisfiable ≡ StateCount = let h : Unsatisfiable ≡ x = cc in h ∙ z in differs Unsatisfiable StateCount (λ m. omega arith) q }
+assumption_refused (Ok n) false x e = let z : ◌≡◌ {A = ℕ} 0 1 = cc in absurd (omega arith)
+assumption_refused (Err d) none x e =
+    record { first = λ later. e; not_count = λ z. (text_refused Condition d).not_count (let h : text_refusal Condition d ≡ x = cc in h ∙ z) }
 
 -- and where it is not refused, the reading is good and some input number satisfies it
-pub assumption_served : (κ : Reading) (none : Bool) → after_assumption κ none Nothing ≡ Nothing → ((n : ℕ) × (κ ≡ Good n)) × (none ≡ false)
-assumption_served κ none e =
-    ⊎_elim
-    (λ g. (
-      g,
-      on none
-          (λ t. absurd (differs Unsatisfiable Nothing (λ z. omega arith) (let f : Unsatisfiable ≡ Nothing = rw (g.1, t) at e in f)))
-          (λ f. f),
-    ))
-    (λ n. absurd (something (after_assumption κ none Nothing) (ungood_refused κ none n).is_refused e))
-    (good_or_not κ)
+pub assumption_served : (κ : Reading) (none : Bool) → after_assumption κ none None ≡ None → ((n : ℕ) × (κ ≡ Ok n)) × (none ≡ false)
+assumption_served (Ok n) true e = let z : ◌≡◌ {A = ℕ} 0 1 = cc in absurd (omega arith)
+assumption_served (Ok n) false e = ((n, refl), refl)
+assumption_served (Err d) none e = let z : ◌≡◌ {A = ℕ} 0 1 = cc in absurd (omega arith)
 
 module _ (i : ℕ) (text : List ℕ) where
   -- so of a condition within its limits the mask tells whether no input number satisfies it
@@ -97,88 +74,75 @@ module _ (i : ℕ) (text : List ℕ) where
       )
 
   -- and every text is told of, also one that is none
-  ungood_none : (ρ : Reading) → ReadingOf i (condition_kind i) text ρ → NotGood ρ → (false ≡ true) ↔ NoneSatisfies i text
+  none_of : (ρ : Reading) → ReadingOf i (condition_kind i) text ρ → (b : Bool) × ((b ≡ true) ↔ NoneSatisfies i text)
   unfolding ReadingOf
-  ungood_none ρ r h = (
-    λ e. absurd (mathlib.Core.Bool.false≢true e),
-    λ n. absurd (h (size n.0) (one_reading i 0 false text {s = Good (size n.0)} r (n.0, n.1, refl))),
+  none_of (Ok n) r = (eqb (mask_of r.0 i) 0, empty_none r.0 r.1)
+  none_of (Err d) r = (
+    false,
+    (
+      λ e. absurd (mathlib.Core.Bool.false≢true e),
+      λ n.
+          let q : Err d ≡ Ok (size n.0) = one_reading i 0 false text {r = Err d} {s = Ok (size n.0)} r (n.0, n.1, refl) in
+          let z : ◌≡◌ {A = ℕ} 0 1 = cc in
+          absurd (omega arith),
+    ),
   )
 
   pub some_none : (b : Bool) × ((b ≡ true) ↔ NoneSatisfies i text)
-  unfolding ReadingOf
-  some_none =
-      let r = some_reading i 0 false text in
-      ⊎_elim
-      (λ g.
-      let good : ReadingOf i (condition_kind i) text (Good g.0) = subst (λ (ρ : Reading). ReadingOf i (condition_kind i) text ρ) g.1 r.1 in
-      (eqb (mask_of good.0 i) 0, empty_none good.0 good.1))
-      (λ n. (false, ungood_none r.0 r.1 n))
-      (good_or_not r.0)
+  some_none = let r = some_reading i 0 false text in none_of r.0 r.1
 
-  refused : (ρ : Reading) → ReadingOf i (condition_kind i) text ρ → (b : Bool) → (b ≡ true) ↔ NoneSatisfies i text → (x : Refusal)
-      → is_nothing x ≡ false → x ≡ condition_refusal i text ρ b → Conditioned i text (Refused x)
-  refused ρ r b t x s e =
+  -- the text is refused
+  pub by_text : (x : Refusal) → Unopened Condition i 0 text x → Conditioned i text (Err x)
+  unfolding condition_refusal
+  by_text x u =
+      let b = some_none in
       record {
-        reading = ρ;
-        read = r;
-        none = b;
-        none_satisfies = t;
-        refusal = x;
-        first = e;
+        reading = u.reading;
+        read = u.read;
+        none = b.0;
+        none_satisfies = b.1;
+        refusal = Some x;
+        first = sym (u.first (cond b.0 (Some Unsatisfiable) None));
         number = refl;
         place = refl;
-        refused = λ _. refl;
-        served = λ z. absurd (something x s z);
+        refused = λ y e. let h : x ≡ y = cc in ap Err h;
+        served = λ e. let z : ◌≡◌ {A = ℕ} 0 1 = cc in absurd (omega arith);
       }
 
-  unread : (x : Refusal) → is_nothing x ≡ false → ((ρ : Reading) (b : Bool) → x ≡ condition_refusal i text ρ b) → Conditioned i text (Refused x)
-  unread x s e = let r = some_reading i 0 false text in let b = some_none in refused r.0 r.1 b.0 b.1 x s (e r.0 b.0)
-
-  pub by_alphabet : bad_alphabet i 0 ≡ true → Conditioned i text (Refused Alphabet)
-  unfolding condition_refusal
-  by_alphabet p = unread Alphabet refl (λ ρ b. rw p)
-
-  module _ (p : bad_alphabet i 0 ≡ false) where
-    pub by_length : too_long text ≡ true → Conditioned i text (Refused TextLength)
+  -- a good text: its formula, which has no temporal operator, and its mask
+  module _ (nodes : List Node) (m : ℕ) (v : Opened Condition i 0 text nodes m) (n : ℕ) (u : n ≡ mask_of v.formula i) where
+    pub by_empty : n ≡ 0 → Conditioned i text (Err Unsatisfiable)
     unfolding condition_refusal
-    by_length q = unread TextLength refl (λ ρ b. rw (p, q))
+    by_empty z =
+        let w = (empty_none v.formula v.good).0 (let e : mask_of v.formula i ≡ 0 = sym u ∙ z in rw e) in
+        record {
+          reading = Ok m;
+          read = v.reading;
+          none = true;
+          none_satisfies = (λ _. w, λ _. refl);
+          refusal = Some Unsatisfiable;
+          first = rw (v.alphabet, v.fits);
+          number = refl;
+          place = refl;
+          refused = λ y e. let h : Unsatisfiable ≡ y = cc in ap Err h;
+          served = λ e. let z : ◌≡◌ {A = ℕ} 0 1 = cc in absurd (omega arith);
+        }
 
-    module _ (q : too_long text ≡ false) where
-      pub by_reading : (ρ : Reading) → ReadingOf i (condition_kind i) text ρ → NotGood ρ
-          → (x : Refusal) → x ≡ after_condition ρ Nothing → Conditioned i text (Refused x)
-      unfolding condition_refusal
-      by_reading ρ r g x e =
-          let f = condition_refused ρ g in
-          let b = some_none in
-          refused ρ r b.0 b.1 x (ap is_nothing e ∙ f.is_refused) (rw (p, q) (e ∙ sym (f.first (cond b.0 Unsatisfiable Nothing))))
-
-      -- a good text: its formula, which has no temporal operator, and its mask
-      module _ (m : ℕ) (r : ReadingOf i (condition_kind i) text (Good m)) (κ : Formula) (g : IsGood i (condition_kind i) text κ) (n : ℕ) (u : n ≡ mask_of κ i) where
-        by_empty : n ≡ 0 → Conditioned i text (Refused Unsatisfiable)
-        unfolding condition_refusal
-        by_empty z =
-            let w = (empty_none κ g).0 (let e : mask_of κ i ≡ 0 = sym u ∙ z in rw e) in
-            refused (Good m) r true (λ _. w, λ _. refl) Unsatisfiable refl (rw (p, q))
-
-        by_some : (n ≡ 0 → ⊥) → Conditioned i text (Mask n)
-        unfolding condition_refusal
-        by_some some =
-            record {
-              reading = Good m;
-              read = r;
-              none = false;
-              none_satisfies = (
-                λ e. absurd (mathlib.Core.Bool.false≢true e),
-                λ w. absurd (some (u ∙ eqb-true (mask_of κ i) 0 ((empty_none κ g).1 w))),
-              );
-              refusal = Nothing;
-              first = rw (p, q);
-              number = refl;
-              place = refl;
-              refused = λ z. absurd (z refl);
-              served = λ _. record { formula = κ; good = g; answer = ap Mask u; judges = mask_judges κ i (static 0 g.reads) };
-            }
-
-        -- so the mask decides
-        pub by_mask : (n ≡ 0 → Conditioned i text (Refused Unsatisfiable)) × ((n ≡ 0 → ⊥) → Conditioned i text (Mask n))
-        by_mask = (by_empty, by_some)
+    pub by_mask : (n ≡ 0 → ⊥) → Conditioned i text (Ok n)
+    unfolding condition_refusal
+    by_mask some =
+        record {
+          reading = Ok m;
+          read = v.reading;
+          none = false;
+          none_satisfies = (
+            λ e. absurd (mathlib.Core.Bool.false≢true e),
+            λ w. absurd (some (u ∙ eqb-true (mask_of v.formula i) 0 ((empty_none v.formula v.good).1 w))),
+          );
+          refusal = None;
+          first = rw (v.alphabet, v.fits);
+          number = refl;
+          place = refl;
+          refused = λ y e. let z : ◌≡◌ {A = ℕ} 0 1 = cc in absurd (omega arith);
+          served = λ _. record { formula = v.formula; good = v.good; answer = ap Ok u; judges = mask_judges v.formula i (static 0 v.good.reads) };
+        }

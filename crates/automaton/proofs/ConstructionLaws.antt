@@ -4,30 +4,27 @@ use Prim.Native.Nat.{ℕ, ◌*◌, ◌≤◌}
 use mathlib.Core.Path.{◌≡◌, refl, sym, ap, ◌∙◌}
 use mathlib.Core.Bool.{true, false}
 use mathlib.Core.List.{List}
-use mathlib.Core.Logic.{⊎_elim}
 use native.Mathlib.Omega.{arith}
 use lib.Dec.{ltb}
 use lib.ListN.{length}
 use borrow.Author.Tests.{ltb-false}
-use Rattle.reader.specs.declared.reading.Reading.{Reading}
-use Rattle.reader.specs.declared.reading.Reading.TheVariants.{Good}
+use Rattle.std.specs.Prelude.{Option, Some, None, Result, Ok, Err}
+use Rattle.reader.specs.declared.refusal.Subject.TheVariants.{Rule}
 use Rattle.reader.specs.declared.refusal.Refusal.{Refusal}
-use Rattle.reader.specs.declared.refusal.Refusal.TheVariants.{Nothing, Alphabet, TextLength, StateCount}
-use Rattle.reader.specs.Limits.{too_long}
+use Rattle.reader.specs.declared.refusal.Refusal.TheVariants.{StateCount}
 use Rattle.reader.specs.Formula.{Formula}
 use Rattle.reader.specs.Marks.{rule_kind}
-use Rattle.reader.specs.Reading.{ReadingOf, IsGood}
-use Rattle.reader.specs.Refusal.{number_of, place_of, is_nothing, after_rule}
+use Rattle.reader.specs.Reading.{IsGood}
+use Rattle.reader.specs.Refusal.{first_number, first_place, answer_number, answer_place}
 use Rattle.reader.proofs.BoolLaws.{or_left, or_right}
-use Rattle.reader.proofs.RefusalLaws.{differs, something, refused_or_served, NotGood, rule_refused}
-use Rattle.reader.proofs.Unambiguous.{one_formula, some_reading}
-use Rattle.automaton.specs.declared.construct.Construction.{Construction}
-use Rattle.automaton.specs.declared.construct.Construction.TheVariants.{Refused}
-use Rattle.automaton.specs.Alphabet.{bad_alphabet, letter_count}
+use Rattle.reader.proofs.Unambiguous.{one_formula}
+use Rattle.automaton.specs.Alphabet.{letter_count}
 use Rattle.automaton.specs.Discovery.{number_of_states}
 use Rattle.automaton.specs.Construction.{CountOf, short_automaton, count_refusal, construct_refusal, Constructed}
-use Rattle.automaton.specs.Construction.{construction_number, construction_place, construction_of}
+use Rattle.automaton.specs.Construction.{construction_of}
 use Rattle.automaton.specs.inner.Exploration.{BuiltAutomaton}
+use Rattle.reader.specs.declared.nodes.Node.{Node}
+use Rattle.automaton.specs.inner.Opening.{Unopened, Opened}
 use Rattle.automaton.proofs.ReadLaws.{count_of}
 
 -- the text of a formula counts its states
@@ -42,79 +39,55 @@ long_enough L n t a e =
     (ltb-false (length t) (n * L) (or_left x y e), ltb-false (length a) n (or_right x y e))
 
 -- the number and the place of an answer are those of its refusal
-answer_number_lem : (x : Refusal) (n : ℕ) → construction_number (construction_of x n) ≡ number_of x
-answer_number_lem x n = ⊎_elim (λ e. rw e) (λ e. rw e) (refused_or_served x)
+answer_number_lem : (x : Option Refusal) (n : ℕ) → answer_number (construction_of x n) ≡ first_number x
+answer_number_lem None n = refl
+answer_number_lem (Some x) n = refl
 
-answer_place_lem : (x : Refusal) (n : ℕ) → construction_place (construction_of x n) ≡ place_of x
-answer_place_lem x n = ⊎_elim (λ e. rw e) (λ e. rw e) (refused_or_served x)
+answer_place_lem : (x : Option Refusal) (n : ℕ) → answer_place (construction_of x n) ≡ first_place x
+answer_place_lem None n = refl
+answer_place_lem (Some x) n = refl
 
 module _ (i o : ℕ) (text : List ℕ) (room : ℕ) (t a : List ℕ) where
-  -- refused with the buffers as they were
-  refused : (ρ : Reading) → ReadingOf i (rule_kind i o) text ρ → (x : Refusal) → is_nothing x ≡ false → (x ≡ StateCount → ⊥)
-      → ((n : ℕ) → x ≡ construct_refusal i o text room t a ρ n) → Constructed i o text room t a t a (Refused x)
-  refused ρ r x s d e =
-      let n = count_of i o text ρ r in
+  -- the text is refused, with the buffers as they were
+  pub by_text : (x : Refusal) → Unopened Rule i o text x → Constructed i o text room t a t a (Err x)
+  unfolding construct_refusal
+  by_text x u =
+      let n = count_of i o text u.reading u.read in
       record {
-        reading = ρ;
-        read = r;
+        reading = u.reading;
+        read = u.read;
         states = n.0;
         counted = n.1;
-        refusal = x;
-        first = e n.0;
+        refusal = Some x;
+        first = sym (u.first (count_refusal (letter_count i o) room t a n.0));
         number = refl;
         place = refl;
-        answer = rw s;
-        served = λ z. absurd (something x s z);
-        over = λ z. absurd (d z);
+        answer = refl;
+        served = λ e. let z : ◌≡◌ {A = ℕ} 0 1 = cc in absurd (omega arith);
+        over = λ e. let h : x ≡ StateCount = cc in absurd (u.not_count h);
         untouched = λ _. (refl, refl);
       }
 
-  unread : (x : Refusal) → is_nothing x ≡ false → (x ≡ StateCount → ⊥) → ((ρ : Reading) (n : ℕ) → x ≡ construct_refusal i o text room t a ρ n)
-      → Constructed i o text room t a t a (Refused x)
-  unread x s d e = let r = some_reading i o true text in refused r.0 r.1 x s d (e r.0)
-
-  pub by_alphabet : bad_alphabet i o ≡ true → Constructed i o text room t a t a (Refused Alphabet)
+  -- a good text
+  pub by_states : (nodes : List Node) (m : ℕ) (v : Opened Rule i o text nodes m) (t' a' : List ℕ) (r : Result ℕ Refusal)
+      → BuiltAutomaton v.formula (letter_count i o) room t a t' a' r → Constructed i o text room t a t' a' r
   unfolding construct_refusal
-  by_alphabet p = unread Alphabet refl (differs Alphabet StateCount (λ e. omega arith)) (λ ρ n. rw p)
-
-  module _ (p : bad_alphabet i o ≡ false) where
-    pub by_length : too_long text ≡ true → Constructed i o text room t a t a (Refused TextLength)
-    unfolding construct_refusal
-    by_length q = unread TextLength refl (differs TextLength StateCount (λ e. omega arith)) (λ ρ n. rw (p, q))
-
-    module _ (q : too_long text ≡ false) where
-      pub by_reading : (ρ : Reading) → ReadingOf i (rule_kind i o) text ρ → NotGood ρ → (x : Refusal) → x ≡ after_rule ρ Nothing
-          → Constructed i o text room t a t a (Refused x)
-      unfolding construct_refusal
-      by_reading ρ r g x e =
-          let f = rule_refused ρ g in
-          refused ρ r x (ap is_nothing e ∙ f.is_refused) (λ z. f.not_count (sym e ∙ z))
-          (λ n. rw (p, q) (e ∙ sym (f.first (count_refusal (letter_count i o) room t a n))))
-
-      -- the refusal of a good text, by the number of its states
-      counted_refusal : (m n : ℕ) → construct_refusal i o text room t a (Good m) n ≡ count_refusal (letter_count i o) room t a n
-      unfolding construct_refusal
-      counted_refusal m n = rw (p, q)
-
-      -- a good text
-      pub by_states : (m : ℕ) → ReadingOf i (rule_kind i o) text (Good m) → (φ : Formula) → IsGood i (rule_kind i o) text φ → (t' a' : List ℕ) (r : Construction)
-          → BuiltAutomaton φ (letter_count i o) room t a t' a' r → Constructed i o text room t a t' a' r
-      by_states m ρ φ g t' a' r b =
-          let n = number_of_states φ (letter_count i o) in
-          let x = count_refusal (letter_count i o) room t a n in
-          record {
-            reading = Good m;
-            read = ρ;
-            states = n;
-            counted = counts i o text φ g n refl;
-            refusal = x;
-            first = sym (counted_refusal m n);
-            number = ap construction_number b.answer ∙ answer_number_lem x n;
-            place = ap construction_place b.answer ∙ answer_place_lem x n;
-            answer = b.answer;
-            served = λ z.
-                let w = b.written z in
-                record { formula = φ; good = g; automaton = w.automaton; transitions_kept = w.transitions_kept; accepting_kept = w.accepting_kept };
-            over = λ z. record { formula = φ; good = g; many = b.many z };
-            untouched = b.untouched;
-          }
+  by_states nodes m v t' a' r b =
+      let n = number_of_states v.formula (letter_count i o) in
+      let x = count_refusal (letter_count i o) room t a n in
+      record {
+        reading = Ok m;
+        read = v.reading;
+        states = n;
+        counted = counts i o text v.formula v.good n refl;
+        refusal = x;
+        first = rw (v.alphabet, v.fits);
+        number = ap (λ (z : Result ℕ Refusal). answer_number z) b.answer ∙ answer_number_lem x n;
+        place = ap (λ (z : Result ℕ Refusal). answer_place z) b.answer ∙ answer_place_lem x n;
+        answer = b.answer;
+        served = λ z.
+            let w = b.written z in
+            record { formula = v.formula; good = v.good; automaton = w.automaton; transitions_kept = w.transitions_kept; accepting_kept = w.accepting_kept };
+        over = λ z. record { formula = v.formula; good = v.good; many = b.many z };
+        untouched = b.untouched;
+      }

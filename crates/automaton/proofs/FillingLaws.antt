@@ -8,14 +8,17 @@ use native.Mathlib.Omega.{arith}
 use lib.Arith.{digits_lt}
 use lib.ListN.{get_or, length, set, length-set}
 use lib.Seq.{get_or-set_same, get_or-set_other}
+use Rattle.std.specs.Prelude.{Option, Some, None}
+use Rattle.std.specs.Option.{unwrap_or}
 use Rattle.machine.specs.inner.Exploration as specs
-use Rattle.machine.specs.inner.Exploration.{Place}
 use Rattle.machine.proofs.FillingLaws as machine
 use Rattle.reader.specs.Formula.{Formula}
 use Rattle.automaton.specs.Limits.{state_limit}
 use Rattle.automaton.specs.Buffer.{Kept}
 use Rattle.automaton.specs.State.{after, machine_of}
 use Rattle.automaton.specs.inner.Exploration.{word_at, AllListed, Filled}
+use Rattle.automaton.specs.inner.States.{Found}
+use Rattle.automaton.proofs.StateListLaws.{found_place}
 use Rattle.automaton.proofs.ArrayLaws.{kept_more}
 
 -- ---- what is kept: one byte more is stored
@@ -45,11 +48,11 @@ pub record Turn (L n s a : ℕ) (transitions : List ℕ) : Type 0 where
 pub turn_room : (L n s a : ℕ) (transitions : List ℕ) → Turn L n s a transitions → s * L + a < length transitions
 turn_room L n s a transitions at = omega (arith, digits_lt at.state at.letter, at.room)
 
-module _ (φ : Formula) (L n s a : ℕ) (list transitions : List ℕ) (at : Turn L n s a transitions) (all : AllListed φ L n list)
+module _ (φ : Formula) (L s a : ℕ) (list transitions : List ℕ) (at : Turn L (length list) s a transitions) (all : AllListed φ L list)
     (filled : Filled φ L transitions (s * L + a)) where
   -- the letter's transition is stored, and those before it stay
   put : (p : ℕ) → get_or (set transitions (s * L + a) p) (s * L + a) 0 ≡ p
-  put p = get_or-set_same transitions (s * L + a) p 0 (turn_room L n s a transitions at)
+  put p = get_or-set_same transitions (s * L + a) p 0 (turn_room L (length list) s a transitions at)
 
   stays : (p u : ℕ) → u < s * L + a → get_or (set transitions (s * L + a) p) u 0 ≡ get_or transitions u 0
   stays p u h = get_or-set_other transitions (s * L + a) u p 0 (λ q. let z : ⊥ = omega arith in z)
@@ -59,14 +62,19 @@ module _ (φ : Formula) (L n s a : ℕ) (list transitions : List ℕ) (at : Turn
       → Filled φ L (set transitions (s * L + a) (get_or transitions (s * L + b) 0)) (s * L + (a + 1))
   letter_twin b h same =
       let p = get_or transitions (s * L + b) 0 in
-      machine.filled_twin (machine_of φ) L state_limit n (word_at list) at.few all s a at.state at.letter transitions (set transitions (s * L + a) p)
-      filled (stays p) b h same (put p)
+      machine.filled_twin (machine_of φ) L state_limit (length list) (word_at list) at.few all s a at.state at.letter transitions
+      (set transitions (s * L + a) p) filled (stays p) b h same (put p)
 
-  -- the state that it leads to has a place
-  pub letter_place : (x p : ℕ) → x ≡ after φ (get_or list s 0) a → Place (word_at list) n x p → Filled φ L (set transitions (s * L + a) p) (s * L + (a + 1))
-  letter_place x p next place =
-      machine.filled_place (machine_of φ) L state_limit n (word_at list) at.few all s a at.state at.letter transitions (set transitions (s * L + a) p)
-      filled (stays p) x p next place (put p)
+  -- the state that it leads to is found
+  pub letter_found : (x : ℕ) (o : Option ℕ) → x ≡ after φ (get_or list s 0) a → Found list x o
+      → Filled φ L (set transitions (s * L + a) (unwrap_or o 0)) (s * L + (a + 1))
+  letter_found x None next found =
+      let within = (machine.place_is_number (machine_of φ) L state_limit (length list) (word_at list) at.few all s a at.state at.letter x (length list) next
+      (found_place list x None found)).0 in
+      absurd (let z : ⊥ = omega arith in z)
+  letter_found x (Some p) next found =
+      machine.filled_place (machine_of φ) L state_limit (length list) (word_at list) at.few all s a at.state at.letter transitions
+      (set transitions (s * L + a) p) filled (stays p) x p next (found_place list x (Some p) found) (put p)
 
 -- ---- before the first state, and on to the next
 pub filled_none : (φ : Formula) (L : ℕ) (transitions : List ℕ) → Filled φ L transitions (0 * L)

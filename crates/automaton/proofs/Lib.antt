@@ -12,6 +12,7 @@ pub mod TwinLaws
 pub mod BuildLaws
 pub mod FirstOverLaws
 pub mod ReadLaws
+mod TextLaws
 pub mod ConstructionLaws
 pub mod TrialLaws
 pub mod ConditionLaws
@@ -25,3 +26,4 @@ pub mod CountOfLaws
 pub mod BufferLaws
 pub mod OneAutomaton
 pub mod OneAnswer
+pub mod StateListLaws

@@ -1,47 +1,59 @@
--- The first walk's steps for states that are words in an array (specs/inner/Exploration.antt): the laws of any machine's, at the formula's. The steps of one
+-- The first walk's steps for a list of states that are words (specs/inner/Exploration.antt): the laws of any machine's, at the formula's. The steps of one
 -- state s are numbered s * L + a. Assumes nothing.
-use Prim.Native.Nat.{ℕ, suc, ◌+◌, ◌*◌, ◌≤◌, ◌<◌}
-use mathlib.Core.Path.{◌≡◌, ◌∙◌}
-use mathlib.Core.List.{List}
+use Prim.Native.Nat.{ℕ, ◌+◌, ◌*◌, ◌≤◌, ◌<◌}
+use mathlib.Core.Path.{◌≡◌, refl, sym, subst}
+use mathlib.Core.List.{List, [], ◌∷◌, ◌++◌}
+use mathlib.Core.Logic.{inl, inr}
 use native.Mathlib.Omega.{arith}
-use lib.ListN.{get_or, length, set}
-use lib.Seq.{get_or-set_same, get_or-set_other}
-use Rattle.machine.specs.inner.Exploration.{Place}
+use lib.ListN.{get_or, length, length-append, get_or-append}
+use lib.Seq.{get_or-append_seam}
+use Rattle.std.specs.Prelude.{Some, None}
+use Rattle.machine.specs.inner.Exploration as specs
 use Rattle.machine.proofs.ListingLaws as machine
 use Rattle.reader.specs.Formula.{Formula}
 use Rattle.automaton.specs.Limits.{state_limit}
 use Rattle.automaton.specs.State.{start, after, machine_of}
-use Rattle.automaton.specs.inner.Exploration.{word_at, Listed, AllListed, StateListed}
+use Rattle.automaton.specs.Discovery.{number_of_states}
+use Rattle.automaton.specs.inner.States.{Absent, Extended}
+use Rattle.automaton.specs.inner.Exploration.{word_at, Listed, AllListed}
+use Rattle.automaton.proofs.StateListLaws.{found_place}
 
 -- before the first step the list holds the start
-pub listed_none : (φ : Formula) (L x : ℕ) (list : List ℕ) → 0 < length list → x ≡ start φ → Listed φ L 1 0 (set list 0 x)
-listed_none φ L x list h e = machine.listed_none (machine_of φ) L (word_at (set list 0 x)) (get_or-set_same list 0 x 0 h ∙ e)
+pub listed_none : (φ : Formula) (L x : ℕ) (list : List ℕ) → list ≡ x ∷ [] → x ≡ start φ → Listed φ L 0 list
+listed_none φ L x list is e = subst (λ (l : List ℕ). Listed φ L 0 l) (sym is) (machine.listed_none (machine_of φ) L (word_at (x ∷ [])) e)
 
 -- after the last step the list holds all states
-pub listed_all : (φ : Formula) (L t n : ℕ) (list : List ℕ) → Listed φ L n t list → n ≤ state_limit → t ≡ n * L → AllListed φ L n list
-listed_all φ L t n list done few all = machine.listed_all (machine_of φ) L state_limit t n (word_at list) done few all
+pub listed_all : (φ : Formula) (L t : ℕ) (list : List ℕ) → Listed φ L t list → length list ≤ state_limit → t ≡ length list * L → AllListed φ L list
+listed_all φ L t list done few all = machine.listed_all (machine_of φ) L state_limit t (length list) (word_at list) done few all
 
 -- letter a of state s
-module _ (φ : Formula) (L s a n : ℕ) (list : List ℕ) (hs : s < n) (ha : a < L) (done : Listed φ L n (s * L + a) list) where
+module _ (φ : Formula) (L s a : ℕ) (list : List ℕ) (hs : s < length list) (ha : a < L) (done : Listed φ L (s * L + a) list) where
   -- the letter has a twin before it, which leads where it does
-  pub letter_twin : (b : ℕ) → b < a → ((state : ℕ) → after φ state b ≡ after φ state a) → Listed φ L n (s * L + (a + 1)) list
-  letter_twin b h twin = machine.letter_twin (machine_of φ) L s a n (word_at list) hs ha done b h twin
+  pub letter_twin : (b : ℕ) → b < a → ((state : ℕ) → after φ state b ≡ after φ state a) → Listed φ L (s * L + (a + 1)) list
+  letter_twin b h twin = machine.letter_twin (machine_of φ) L s a (length list) (word_at list) hs ha done b h twin
 
-  module _ (x p : ℕ) (next : x ≡ after φ (get_or list s 0) a) (place : Place (word_at list) n x p) where
-    pub letter_old : (p ≡ n → ⊥) → Listed φ L n (s * L + (a + 1)) list
-    letter_old old = machine.letter_old (machine_of φ) L s a n (word_at list) hs ha done x p next place old
+  module _ (x : ℕ) (next : x ≡ after φ (get_or list s 0) a) where
+    -- the state that it leads to is on the list, or comes to its end
+    pub letter_extended : (new : List ℕ) → Extended list x new → Listed φ L (s * L + (a + 1)) new
+    letter_extended new (inl (here, e)) =
+        let p = here.0 in
+        subst (λ (l : List ℕ). Listed φ L (s * L + (a + 1)) l) (sym e)
+        (machine.letter_old (machine_of φ) L s a (length list) (word_at list) hs ha done x p next (found_place list x (Some p) here.1)
+        (λ q. let l : p < length list = here.1.0 in let z : ⊥ = omega arith in z))
+    letter_extended new (inr (absent, e)) =
+        let grown = list ++ x ∷ [] in
+        let count : length list + 1 ≡ length grown = sym (length-append list (x ∷ [])) in
+        subst (λ (l : List ℕ). Listed φ L (s * L + (a + 1)) l) (sym e)
+        (subst (λ (n : ℕ). specs.Listed (machine_of φ) L n (s * L + (a + 1)) (word_at grown)) count
+        (machine.letter_new (machine_of φ) L s a (length list) (word_at list) hs ha done x (length list) next (found_place list x None absent) refl
+        (word_at grown)
+        (λ i h. get_or-append list (x ∷ []) 0 i h) (get_or-append_seam list x [] 0)))
 
-    pub letter_new : p ≡ n → n < length list → Listed φ L (n + 1) (s * L + (a + 1)) (set list n x)
-    letter_new new l =
-        machine.letter_new (machine_of φ) L s a n (word_at list) hs ha done x p next place new (word_at (set list n x))
-        (λ i h. get_or-set_other list n i x 0 (λ q. let z : ⊥ = omega arith in z)) (get_or-set_same list n x 0 l)
-
-    pub letter_over : p ≡ n → n ≡ state_limit → StateListed φ L s (suc state_limit) list
-    letter_over new full = machine.letter_over (machine_of φ) L s a n (word_at list) hs ha done x p next place new state_limit full
-
--- after the last letter, and on to the next state
-pub letters_done : (φ : Formula) (L n s a : ℕ) (list : List ℕ) → Listed φ L n (s * L + a) list → a ≡ L → n ≤ state_limit → StateListed φ L s n list
-letters_done φ L n s a list done all few = machine.letters_done (machine_of φ) L state_limit n s a (word_at list) done all few
-
-pub next_state : (φ : Formula) (L s r : ℕ) (list : List ℕ) → StateListed φ L s r list → r ≤ state_limit → Listed φ L r ((s + 1) * L) list
-next_state φ L s r list done few = machine.next_state (machine_of φ) L state_limit s r (word_at list) done few
+    -- there is no room for it
+    pub letter_over : Absent list x → length list ≡ state_limit → state_limit < number_of_states φ L
+    letter_over absent full =
+        let over =
+        machine.letter_over (machine_of φ) L s a (length list) (word_at list) hs ha done x (length list) next (found_place list x None absent) refl
+        state_limit full in
+        let number = (over.beyond refl).number in
+        omega arith

@@ -6,22 +6,17 @@ use mathlib.Core.Path.{◌≡◌, refl, sym, ap, ap₂, ◌∙◌, subst}
 use mathlib.Core.Bool.{Bool, true, false, cond}
 use mathlib.Core.List.{List}
 use mathlib.Core.Logic.{◌↔◌, ⊎_elim}
+use native.Mathlib.Omega.{arith}
 use lib.Pow.{pow_pos}
-use Rattle.reader.specs.declared.reading.Reading.{Reading}
+use Rattle.std.specs.Prelude.{Option, Some, None, Result, Ok}
 use Rattle.reader.specs.declared.refusal.Refusal.{Refusal}
 use Rattle.reader.specs.declared.refusal.Refusal.TheVariants.{Alphabet, TextLength}
 use Rattle.reader.specs.Limits.{too_long}
 use Rattle.reader.specs.Formula.{Formula}
 use Rattle.reader.specs.Marks.{rule_kind}
-use Rattle.reader.specs.Reading.{ReadingOf}
-use Rattle.reader.specs.Refusal.{is_nothing}
-use Rattle.reader.proofs.RefusalLaws.{something, refused_or_served}
+use Rattle.reader.specs.Reading.{Reading, ReadingOf}
+use Rattle.reader.proofs.RefusalLaws.{refused_or_served}
 use Rattle.reader.proofs.Unambiguous.{one_formula, one_reading}
-use Rattle.automaton.specs.declared.trial.Trial.{Trial}
-use Rattle.automaton.specs.declared.trial.Trial.TheVariants.{Satisfied, Violated}
-use Rattle.automaton.specs.declared.condition.Assumption.{Assumption}
-use Rattle.automaton.specs.declared.condition.Assumption.TheVariants.{Mask}
-use Rattle.automaton.specs.declared.construct.Construction.{Construction}
 use Rattle.automaton.specs.Trace.{Satisfies}
 use Rattle.automaton.specs.Trial.{trial_refusal, Tried}
 use Rattle.automaton.specs.Condition.{mask_of, condition_refusal, Conditioned}
@@ -36,7 +31,7 @@ same_test true c f g = sym (g.1 (f.0 refl))
 same_test false true f g = f.1 (g.0 refl)
 same_test false false f g = refl
 
-module _ {i o : ℕ} {text letters : List ℕ} {r r' : Trial} (x : Tried i o text letters r) (y : Tried i o text letters r') where
+module _ {i o : ℕ} {text letters : List ℕ} {r r' : Result Bool Refusal} (x : Tried i o text letters r) (y : Tried i o text letters r') where
   same_trial_refusal : x.refusal ≡ y.refusal
   same_trial_refusal = x.first ∙ ap (trial_refusal i o text letters) (one_reading i o true text x.read y.read) ∙ sym y.first
 
@@ -49,14 +44,11 @@ module _ {i o : ℕ} {text letters : List ℕ} {r r' : Trial} (x : Tried i o tex
       let v = y.served (sym same_trial_refusal ∙ n) in
       let e : v.formula ≡ u.formula = one_formula i o true text v.good.reads u.good.reads in
       let w : (v.satisfied ≡ true) ↔ Satisfies u.formula letters = subst (λ (φ : Formula). (v.satisfied ≡ true) ↔ Satisfies φ letters) e v.right in
-      u.answer ∙ ap (λ (b : Bool). cond b Satisfied Violated) (same_test u.satisfied v.satisfied u.right w) ∙ sym v.answer)
-      (λ n.
-      let e = something x.refusal n in
-      x.refused e ∙ ap Rattle.automaton.specs.declared.trial.Trial.TheVariants.Refused same_trial_refusal
-      ∙ sym (y.refused (λ z. e (same_trial_refusal ∙ z))))
+      u.answer ∙ ap Ok (same_test u.satisfied v.satisfied u.right w) ∙ sym v.answer)
+      (λ n. x.refused n.0 n.1 ∙ sym (y.refused n.0 (sym same_trial_refusal ∙ n.1)))
       (refused_or_served x.refusal)
 
-module _ {i : ℕ} {text : List ℕ} {r r' : Assumption} (x : Conditioned i text r) (y : Conditioned i text r') where
+module _ {i : ℕ} {text : List ℕ} {r r' : Result ℕ Refusal} (x : Conditioned i text r) (y : Conditioned i text r') where
   same_condition_refusal : x.refusal ≡ y.refusal
   same_condition_refusal =
       x.first
@@ -71,11 +63,8 @@ module _ {i : ℕ} {text : List ℕ} {r r' : Assumption} (x : Conditioned i text
       let u = x.served n in
       let v = y.served (sym same_condition_refusal ∙ n) in
       let e : u.formula ≡ v.formula = one_formula i 0 false text u.good.reads v.good.reads in
-      u.answer ∙ ap (λ (κ : Formula). Mask (mask_of κ i)) e ∙ sym v.answer)
-      (λ n.
-      let e = something x.refusal n in
-      x.refused e ∙ ap Rattle.automaton.specs.declared.condition.Assumption.TheVariants.Refused same_condition_refusal
-      ∙ sym (y.refused (λ z. e (same_condition_refusal ∙ z))))
+      u.answer ∙ ap (λ (κ : Formula). Ok (mask_of κ i)) e ∙ sym v.answer)
+      (λ n. x.refused n.0 n.1 ∙ sym (y.refused n.0 (sym same_condition_refusal ∙ n.1)))
       (refused_or_served x.refusal)
 
 -- two numbers of the rule's states give one refusal
@@ -83,14 +72,10 @@ one_count : (i o : ℕ) (text : List ℕ) (room : ℕ) (t a : List ℕ) (ρ : Re
     → CountOf i o text n → CountOf i o text m → construct_refusal i o text room t a ρ n ≡ construct_refusal i o text room t a ρ m
 unfolding construct_refusal
 one_count i o text room t a ρ n m r c d =
-    ap (λ (x : Refusal). cond (bad_alphabet i o) Alphabet (cond (too_long text) TextLength x))
+    ap (λ (x : Option Refusal). cond (bad_alphabet i o) (Some Alphabet) (cond (too_long text) (Some TextLength) x))
     (one_refusal i o text (count_refusal (letter_count i o) room t a) ρ n m r c d)
 
--- the answer to a refusal is by the refusal alone
-without_count : (x : Refusal) (n m : ℕ) → is_nothing x ≡ false → construction_of x n ≡ construction_of x m
-without_count x n m e = rw e
-
-module _ {i o room : ℕ} {text t a t₁ a₁ t₂ a₂ : List ℕ} {r r' : Construction}
+module _ {i o room : ℕ} {text t a t₁ a₁ t₂ a₂ : List ℕ} {r r' : Result ℕ Refusal}
     (x : Constructed i o text room t a t₁ a₁ r) (y : Constructed i o text room t a t₂ a₂ r') where
   same_construction_refusal : x.refusal ≡ y.refusal
   same_construction_refusal =
@@ -103,11 +88,11 @@ module _ {i o room : ℕ} {text t a t₁ a₁ t₂ a₂ : List ℕ} {r r' : Cons
   same_states =
       ⊎_elim
       (λ n. let s = x.served n in ap (construction_of x.refusal) (x.counted s.formula s.good ∙ sym (y.counted s.formula s.good)))
-      (λ n. without_count x.refusal x.states y.states n)
+      (λ n. ap (λ (z : Option Refusal). construction_of z x.states) n.1 ∙ sym (ap (λ (z : Option Refusal). construction_of z y.states) n.1))
       (refused_or_served x.refusal)
 
   same_construction : r ≡ r'
-  same_construction = x.answer ∙ same_states ∙ ap (λ (z : Refusal). construction_of z y.states) same_construction_refusal ∙ sym y.answer
+  same_construction = x.answer ∙ same_states ∙ ap (λ (z : Option Refusal). construction_of z y.states) same_construction_refusal ∙ sym y.answer
 
   same_buffers : (t₁ ≡ t₂) × (a₁ ≡ a₂)
   same_buffers =
@@ -120,13 +105,13 @@ module _ {i o room : ℕ} {text t a t₁ a₁ t₂ a₂ : List ℕ} {r r' : Cons
       record { automaton = u.automaton; transitions_kept = u.transitions_kept; accepting_kept = u.accepting_kept }
       record { automaton = v.automaton; transitions_kept = v.transitions_kept; accepting_kept = v.accepting_kept })
       (λ n.
-      let e = something x.refusal n in
-      let u = x.untouched e in
-      let v = y.untouched (λ z. e (same_construction_refusal ∙ z)) in
+      let some : (x.refusal ≡ None) → ⊥ = λ e. let f : None ≡ Some n.0 = sym e ∙ n.1 in let z : ◌≡◌ {A = ℕ} 0 1 = cc in omega arith in
+      let u = x.untouched some in
+      let v = y.untouched (λ z. some (same_construction_refusal ∙ z)) in
       (u.0 ∙ sym v.0, u.1 ∙ sym v.1))
       (refused_or_served x.refusal)
 
 -- two runs of the construction call agree in the answer and in both buffers
-pub one_construction : {i o room : ℕ} {text t a t₁ a₁ t₂ a₂ : List ℕ} {r r' : Construction}
+pub one_construction : {i o room : ℕ} {text t a t₁ a₁ t₂ a₂ : List ℕ} {r r' : Result ℕ Refusal}
     → Constructed i o text room t a t₁ a₁ r → Constructed i o text room t a t₂ a₂ r' → (r ≡ r') × (t₁ ≡ t₂) × (a₁ ≡ a₂)
 one_construction x y = let b = same_buffers x y in (same_construction x y, b.0, b.1)

@@ -1,7 +1,8 @@
 -- Letters (specification, "Letters"): i inputs and o outputs make 2^i input numbers, 2^o output numbers and L = 2^(i+o) letters. And what is
 -- refused of them: too many inputs or outputs, and a number that is too large (refusals 1, 11 and 13).
 -- Assumes nothing.
-use Rattle.std.specs.Prelude.{ℕ, suc, ◌+◌, ◌*◌, ◌^◌, Bool, cond, ◌||◌, List, [], ◌∷◌, ltb, leb, length}
+use Rattle.std.specs.Prelude.{ℕ, ◌+◌, ◌*◌, ◌^◌, Bool, cond, ◌||◌, List, ltb, length, Option, Some}
+use Rattle.std.specs.List.{prefix_len}
 use Rattle.reader.specs.declared.refusal.Refusal.{Refusal}
 use Rattle.machine.specs.Letters.{Letter}
 -- every letter of a trace is below L
@@ -20,11 +21,10 @@ letter_count i o = 2 ^ (i + o)
 abbrev pub letter_of : (inputs x y : ℕ) → Letter
 letter_of inputs x y = x + inputs * y
 
--- the index of the first number of a list that is `bound` or more, or the list's length
+-- the index of the first number of a list that is `bound` or more, or the list's length: as many numbers below the bound stand at its front
 unfoldable pub first_over : (bound : ℕ) (w : List ℕ) → ℕ
-first_over bound [] = 0
-first_over bound (a ∷ w) = cond (leb bound a) 0 (suc (first_over bound w))
+first_over bound w = prefix_len (λ b. ltb b bound) w
 
 -- the refusal for the first number of a list that is too large, by its index, and where there is none the refusal that comes later
-abbrev pub after_list : (bound : ℕ) (w : List ℕ) (refusal : ℕ → Refusal) (later : Refusal) → Refusal
-after_list bound w refusal later = cond (ltb (first_over bound w) (length w)) (refusal (first_over bound w)) later
+abbrev pub after_list : (bound : ℕ) (w : List ℕ) (refusal : ℕ → Refusal) (later : Option Refusal) → Option Refusal
+after_list bound w refusal later = cond (ltb (first_over bound w) (length w)) (Some (refusal (first_over bound w))) later

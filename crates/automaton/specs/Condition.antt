@@ -1,18 +1,15 @@
 -- The condition (specification, "Texts" and "Game"), which the field calls the assumption: a formula over the inputs,
--- judged on one input number. The layer's call turns its text into a mask; its answer is the declared type `Assumption`, its order of refusals 1, 2, 7, 8, 15.
+-- judged on one input number. The layer's call turns its text into a mask, or refuses; its order of refusals is 1, 2, 7, 8, 15.
 -- Assumes nothing.
-use Rattle.std.specs.Prelude.{ℕ, ◌^◌, ◌<◌, ◌≡◌, Bool, true, cond, [], ◌∷◌, ◌↔◌}
-use Rattle.reader.specs.declared.reading.Reading.{Reading}
+use Rattle.std.specs.Prelude.{ℕ, ◌^◌, ◌<◌, ◌≡◌, Bool, true, cond, [], ◌∷◌, ◌↔◌, Option, Some, None, Result, Ok, Err}
 use Rattle.reader.specs.declared.refusal.Refusal.{Refusal}
-use Rattle.reader.specs.declared.refusal.Refusal.TheVariants.{Nothing, Alphabet, TextLength, Unsatisfiable}
+use Rattle.reader.specs.declared.refusal.Refusal.TheVariants.{Alphabet, TextLength, Unsatisfiable}
 use Rattle.reader.specs.Text.{Text}
 use Rattle.reader.specs.Limits.{too_long}
 use Rattle.reader.specs.Formula.{Formula}
 use Rattle.reader.specs.Marks.{condition_kind}
-use Rattle.reader.specs.Reading.{ReadingOf, IsGood}
-use Rattle.reader.specs.Refusal.{number_of, place_of, after_condition}
-use Rattle.automaton.specs.declared.condition.Assumption.{Assumption}
-use Rattle.automaton.specs.declared.condition.Assumption.TheVariants.{Mask, Refused}
+use Rattle.reader.specs.Reading.{Reading, ReadingOf, IsGood}
+use Rattle.reader.specs.Refusal.{first_number, first_place, answer_number, answer_place, after_condition}
 use Rattle.automaton.specs.Alphabet.{bad_alphabet}
 use Rattle.automaton.specs.Bits.{bit, of_bits}
 use Rattle.automaton.specs.Trace.{Satisfies}
@@ -32,38 +29,29 @@ abbrev pub NoneSatisfies : (i : ℕ) (text : Text) → Type 0
 NoneSatisfies i text = (κ : Formula) × IsGood i (condition_kind i) text κ × ((x : ℕ) → x < 2 ^ i → Satisfies κ (x ∷ []) → ⊥)
 
 -- the condition's refusals, 7, 8 and 15, for a text with the reading κ, of which `none` tells whether no input number satisfies it
-abbrev pub after_assumption : (κ : Reading) (none : Bool) (later : Refusal) → Refusal
-after_assumption κ none later = after_condition κ (cond none Unsatisfiable later)
+abbrev pub after_assumption : (κ : Reading) (none : Bool) (later : Option Refusal) → Option Refusal
+after_assumption κ none later = after_condition κ (cond none (Some Unsatisfiable) later)
 
 -- the refusal that comes first
-unfoldable pub condition_refusal : (i : ℕ) (text : Text) (κ : Reading) (none : Bool) → Refusal
-condition_refusal i text κ none = cond (bad_alphabet i 0) Alphabet (cond (too_long text) TextLength (after_assumption κ none Nothing))
-
--- the specification's number and place of every answer: none where the call is served
-abbrev pub assumption_number : Assumption → ℕ
-assumption_number (Mask m) = 0
-assumption_number (Refused x) = number_of x
-
-abbrev pub assumption_place : Assumption → ℕ
-assumption_place (Mask m) = 0
-assumption_place (Refused x) = place_of x
+unfoldable pub condition_refusal : (i : ℕ) (text : Text) (κ : Reading) (none : Bool) → Option Refusal
+condition_refusal i text κ none = cond (bad_alphabet i 0) (Some Alphabet) (cond (too_long text) (Some TextLength) (after_assumption κ none None))
 
 -- the answer of a served call
-pub record Masked (i : ℕ) (text : Text) (r : Assumption) : Type 0 where
+pub record Masked (i : ℕ) (text : Text) (r : Result ℕ Refusal) : Type 0 where
   pub formula : Formula
   pub good : IsGood i (condition_kind i) text formula
-  pub answer : r ≡ Mask (mask_of formula i)
+  pub answer : r ≡ Ok (mask_of formula i)
   pub judges : Judges formula i (mask_of formula i)
 
 -- the whole promise
-pub record Conditioned (i : ℕ) (text : Text) (r : Assumption) : Type 0 where
+pub record Conditioned (i : ℕ) (text : Text) (r : Result ℕ Refusal) : Type 0 where
   pub reading : Reading
   pub read : ReadingOf i (condition_kind i) text reading
   pub none : Bool
   pub none_satisfies : (none ≡ true) ↔ NoneSatisfies i text
-  pub refusal : Refusal
+  pub refusal : Option Refusal
   pub first : refusal ≡ condition_refusal i text reading none
-  pub number : assumption_number r ≡ number_of refusal
-  pub place : assumption_place r ≡ place_of refusal
-  pub refused : (refusal ≡ Nothing → ⊥) → r ≡ Refused refusal
-  pub served : refusal ≡ Nothing → Masked i text r
+  pub number : answer_number r ≡ first_number refusal
+  pub place : answer_place r ≡ first_place refusal
+  pub refused : (x : Refusal) → refusal ≡ Some x → r ≡ Err x
+  pub served : refusal ≡ None → Masked i text r

@@ -6,4 +6,7 @@ pub mod Nodes
 pub mod Evaluation
 pub mod Coordinates
 pub mod Fold
+pub mod Table
+pub mod States
 pub mod Exploration
+pub mod Opening

@@ -1,37 +1,23 @@
 // The condition call: the mask of a condition.
 ghost use Rattle.automaton.specs.Condition.{Conditioned};
 
-use crate::alphabet::{bad_alphabet, power};
-use crate::mask::condition_mask;
+use crate::alphabet::power;
+use crate::texts::read_text;
+use crate::tree::Tree;
 use reader::limits::NODE_LIMIT;
-use reader::reading::{Reading, read, too_long};
-use reader::refusal::{Refusal, Subject, text_refusal};
+use reader::nodes::Node;
+use reader::refusal::{Refusal, Subject};
 
-// The answer: the mask, bit x for input number x, or a refusal.
-#[derive(Clone, Copy)]
-pub enum Assumption {
-    Mask(u16),
-    Refused(Refusal),
-}
-
-// Reads a condition and judges every input number by it, or refuses.
-pub fn read_condition(i: usize, text: &[u8]) -> Assumption
+// Reads a condition and judges every input number by it: the mask, bit x for input number x, or a refusal.
+pub fn read_condition(i: usize, text: &[u8]) -> Result<u16, Refusal>
     ensures { Conditioned i text.now result }
 {
-    if bad_alphabet(i, 0) {
-        return Assumption::Refused(Refusal::Alphabet);
-    }
-    if too_long(text) {
-        return Assumption::Refused(Refusal::TextLength);
-    }
-    let mut nodes = [0usize; NODE_LIMIT];
-    let reading = read(text, i as u8, 0, false, &mut nodes);
-    let Reading::Good(count) = reading else {
-        return Assumption::Refused(text_refusal(Subject::Condition, reading));
-    };
-    let mask = condition_mask(&nodes, count, power(i));
+    let mut nodes = [Node::Constant(false); NODE_LIMIT];
+    let count = read_text(Subject::Condition, i, 0, text, &mut nodes)?;
+    let tree = Tree::of(&nodes[..count]);
+    let mask = tree.condition_mask(power(i));
     if mask == 0 {
-        return Assumption::Refused(Refusal::Unsatisfiable);
+        return Err(Refusal::Unsatisfiable);
     }
-    Assumption::Mask(mask)
+    Ok(mask)
 }

@@ -33,7 +33,8 @@ pub(crate) fn start_word(vectors: u64) -> u64
     let first = (vectors / VECTORS / 2) as usize;
     let all = coordinate(first);
     if vectors < VECTORS {
-        return all % (1u64 << vectors);
+        all % (1u64 << vectors)
+    } else {
+        all
     }
-    all
 }

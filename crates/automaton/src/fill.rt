@@ -1,98 +1,59 @@
 // The second walk: the transitions and the flags of the states in the finished list.
-ghost use Rattle.std.specs.Prelude.{◌≡◌, ℕ, suc, ◌+◌, ◌*◌, ◌/◌, ◌≤◌, ◌<◌, ◌^◌, length, get_or};
-ghost use Rattle.reader.specs.Formula.{Formula, operators};
-ghost use Rattle.automaton.specs.Limits.{state_limit, letter_limit};
+ghost use Rattle.std.specs.Prelude.{◌≡◌, ℕ, ◌+◌, ◌*◌, ◌≤◌, ◌<◌, length, get_or};
+ghost use Rattle.reader.specs.Formula.{Formula};
 ghost use Rattle.automaton.specs.inner.Sizes.{vector_limit};
 ghost use Rattle.automaton.specs.Bits.{bit, one};
 ghost use Rattle.automaton.specs.Buffer.{Kept};
-ghost use Rattle.automaton.specs.inner.Representation.{Tabulates, Twins};
+ghost use Rattle.automaton.specs.inner.Table.{TableOf};
 ghost use Rattle.automaton.specs.inner.Exploration.{AllListed, Filled};
 
 use crate::bits::test_bit;
-use crate::bytes::wide;
-use crate::explore::{find_state, state_slot, successor};
-use crate::limits::{LETTER_LIMIT, SLOT_COUNT, TABLE_SIZE};
+use crate::states::States;
+use crate::twins::TwinTable;
 
-// Writes the transitions of state s: the twin's for a letter that has an earlier one, and else where the state after the letter stands.
-fn fill_state(
-    table: &[u8; TABLE_SIZE],
-    twins: &[u8; LETTER_LIMIT],
-    vectors: u64,
-    letters: usize,
-    s: usize,
-    n: usize,
-    slots: &[u8; SLOT_COUNT],
-    list: &[u64],
-    transitions: &mut [u8],
-)
-    requires { (vectors ≤ vector_limit) × (letters ≤ letter_limit) × Twins letters (vectors / 2) table.now twins.now
-        × (s < n) × (n ≤ state_limit) × (n ≤ length list.now) × (n * letters ≤ length transitions.old) }
-    ensures filled { (φ : Formula) → Tabulates φ letters table.now → vectors ≡ 2 ^ suc (operators φ)
-        → AllListed φ letters n list.now → Filled φ letters transitions.old (s * letters)
-        → Filled φ letters transitions.new (s * letters + letters) }
-    ensures kept { Kept (s * letters + letters) transitions.old transitions.new }
+// Writes the transitions of state s: the twin's for a letter that has an earlier one, and else where the state after the letter stands. A loop of its own beside
+// `list_letters`, which adds states and may stop: what they share is `TwinTable::twin`.
+fn fill_state(twins: TwinTable, states: &States, s: usize, transitions: &mut [u8])
+    requires { (s < length states.now) × (length states.now * twins.table.letters ≤ length transitions.old) }
+    ensures filled { (φ : Formula) → TableOf φ twins.entry.table → AllListed φ twins.entry.table.letters states.now
+        → Filled φ twins.entry.table.letters transitions.old (s * twins.entry.table.letters)
+        → Filled φ twins.entry.table.letters transitions.new (s * twins.entry.table.letters + twins.entry.table.letters) }
+    ensures kept { Kept (s * twins.entry.table.letters + twins.entry.table.letters) transitions.old transitions.new }
 {
-    let row = s * letters;
-    let mut a: usize = 0;
-    while a < letters {
-        let b = wide(twins[a]);
+    let table = twins.table;
+    let from = states.get(s);
+    let row = s * table.letters;
+    for a in 0..table.letters {
+        let b = twins.twin(a);
         if b < a {
             transitions[row + a] = transitions[row + b];
-            a += 1;
             continue;
         }
-        let x = successor(table, a, vectors, list[s]);
-        let k = state_slot(x);
-        let p = find_state(list, n, x, wide(slots[k]));
+        // every state is on the list by now, so the 0 never comes
+        let p = states.find(table.successor(a, from)).unwrap_or(0);
         transitions[row + a] = p as u8;
-        a += 1;
     }
 }
 
-// Writes the transitions of the n states, one row after the other.
-pub(crate) fn fill_transitions(
-    table: &[u8; TABLE_SIZE],
-    twins: &[u8; LETTER_LIMIT],
-    vectors: u64,
-    letters: usize,
-    n: usize,
-    slots: &[u8; SLOT_COUNT],
-    list: &[u64],
-    transitions: &mut [u8],
-)
-    requires { (vectors ≤ vector_limit) × (letters ≤ letter_limit) × Twins letters (vectors / 2) table.now twins.now
-        × (n ≤ state_limit) × (n ≤ length list.now) × (n * letters ≤ length transitions.old) }
-    ensures filled { (φ : Formula) → Tabulates φ letters table.now → vectors ≡ 2 ^ suc (operators φ)
-        → AllListed φ letters n list.now → Filled φ letters transitions.new (n * letters) }
-    ensures kept { Kept (n * letters) transitions.old transitions.new }
+// Writes the transitions of the states, one row after the other.
+pub(crate) fn fill_transitions(twins: TwinTable, states: &States, transitions: &mut [u8])
+    requires { length states.now * twins.table.letters ≤ length transitions.old }
+    ensures filled { (φ : Formula) → TableOf φ twins.entry.table → AllListed φ twins.entry.table.letters states.now
+        → Filled φ twins.entry.table.letters transitions.new (length states.now * twins.entry.table.letters) }
+    ensures kept { Kept (length states.now * twins.entry.table.letters) transitions.old transitions.new }
 {
-    let mut s: usize = 0;
-    while s < n {
-        fill_state(
-            table,
-            twins,
-            vectors,
-            letters,
-            s,
-            n,
-            slots,
-            list,
-            transitions,
-        );
-        s += 1;
+    for s in 0..states.count() {
+        fill_state(twins, states, s, transitions);
     }
 }
 
-// Sets the flag of each of the first n states to whether it holds the end valuation.
-pub(crate) fn mark_states(list: &[u64], n: usize, end: u64, accepting: &mut [u8])
-    requires { (n ≤ length list.now) × (n ≤ length accepting.old) × (end < vector_limit) }
-    ensures marked { (s : ℕ) → s < n → get_or accepting.new s 0 ≡ one (bit (get_or list.now s 0) end) }
-    ensures kept { Kept n accepting.old accepting.new }
+// Sets the flag of each state to whether it holds the end valuation.
+pub(crate) fn mark_states(states: &States, end: u64, accepting: &mut [u8])
+    requires { (length states.now ≤ length accepting.old) × (end < vector_limit) }
+    ensures marked { (s : ℕ) → s < length states.now → get_or accepting.new s 0 ≡ one (bit (get_or states.now s 0) end) }
+    ensures kept { Kept (length states.now) accepting.old accepting.new }
 {
-    let mut s: usize = 0;
-    while s < n {
-        let b = test_bit(list[s], end);
-        accepting[s] = (b % 2) as u8;
-        s += 1;
+    for s in 0..states.count() {
+        accepting[s] = u8::from(test_bit(states.get(s), end));
     }
 }

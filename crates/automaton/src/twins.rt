@@ -1,94 +1,80 @@
 // Letters with equal rows in the table, which lead every state to the same state.
-ghost use Rattle.std.specs.Prelude.{◌≡◌, true, ◌≤◌, ◌<◌, length};
-ghost use Rattle.automaton.specs.Limits.{letter_limit};
-ghost use Rattle.automaton.specs.inner.Sizes.{pair_limit, slot_count};
+ghost use Rattle.std.specs.Prelude.{◌≡◌, ℕ, ◌/◌, ◌≤◌, ◌<◌, length};
+ghost use Rattle.automaton.specs.inner.Sizes.{slot_count};
 ghost use Rattle.automaton.specs.inner.Representation.{SameRow, Twins};
 
 use crate::bits::WORD_BITS;
-use crate::bytes::wide;
-use crate::limits::{ENTRY_LIMIT, LETTER_LIMIT, PAIR_LIMIT, SLOT_COUNT, TABLE_SIZE};
+use crate::limits::{ENTRY_LIMIT, LETTER_LIMIT, SLOT_COUNT};
+use crate::table::Table;
+
+// The table with each letter's twin: an earlier letter with the same row, or the letter itself, which is its own twin: so every letter has one, and no `Option` is taken apart.
+#[derive(Clone, Copy)]
+pub(crate) struct TwinTable<'a, 'b> {
+    pub(crate) table: Table<'a>,
+    pub(crate) twins: &'b [u8; LETTER_LIMIT],
+    ghost same_rows: { Twins table.letters (table.vectors / 2) table.entries.now twins.now },
+}
+
+impl<'a, 'b> TwinTable<'a, 'b> {
+    ghost use Rattle.reader.specs.Formula.{Formula};
+    ghost use Rattle.automaton.specs.State.{after};
+    ghost use Rattle.automaton.specs.inner.Table.{TableOf};
+
+    // The letter's twin.
+    pub(crate) fn twin(self, letter: usize) -> usize
+        requires { letter < self.table.letters }
+        ensures earlier { result ≤ letter }
+        ensures same { (φ : Formula) → TableOf φ self.entry.table → (state : ℕ) → after φ state result ≡ after φ state letter }
+    {
+        usize::from(self.twins[letter])
+    }
+}
 
 // Half a word. What is kept of a key before one more entry is added is its low half.
 const HALF: usize = WORD_BITS / 2;
 
-// Whether the rows of two letters are equal.
-fn same_row(table: &[u8; TABLE_SIZE], entries: usize, a: usize, b: usize) -> bool
-    requires { (entries ≤ pair_limit) × (a < letter_limit) × (b < letter_limit) }
-    ensures { result ≡ true → SameRow table.now entries a b }
-{
-    let left = a * PAIR_LIMIT;
-    let right = b * PAIR_LIMIT;
-    let mut k: usize = 0;
-    while k < entries {
-        if table[left + k] != table[right + k] {
-            return false;
-        }
-        k += 1;
-    }
-    true
-}
-
-// The slot of a letter, which is made of its row: equal rows have the same slot, and different ones mostly different slots.
-fn slot_of(table: &[u8; TABLE_SIZE], entries: usize, letter: usize) -> usize
-    requires { (entries ≤ pair_limit) × (letter < letter_limit) }
+// The slot of a row: equal rows have the same slot, and different ones mostly different slots.
+fn slot_of(row: &[u8]) -> usize
     ensures { result < slot_count }
 {
-    let row = letter * PAIR_LIMIT;
-    let mut key: usize = 0;
-    let mut k: usize = 0;
-    while k < entries {
-        let entry = table[row + k] % ENTRY_LIMIT;
-        key = (key << HALF >> HALF) * 127 + entry as usize;
-        k += 1;
-    }
+    let key = row.iter().fold(
+        0,
+        |key, &entry| (key << HALF >> HALF) * 127 + usize::from(entry % ENTRY_LIMIT),
+    );
     key % SLOT_COUNT
 }
 
 // The letter b, if it is smaller and has the same row, and else the letter itself.
-fn twin_of(table: &[u8; TABLE_SIZE], entries: usize, letter: usize, b: usize) -> usize
-    requires { (entries ≤ pair_limit) × (letter < letter_limit) }
-    ensures { (result ≤ letter) × SameRow table.now entries result letter }
+fn twin_of(table: Table, letter: usize, b: usize) -> usize
+    requires { letter < table.letters }
+    ensures { (result ≤ letter) × SameRow table.entry.entries.now (table.entry.vectors / 2) result letter }
 {
-    if b < letter {
-        if same_row(table, entries, b, letter) {
-            return b;
-        }
+    if b < letter && table.row(b) == table.row(letter) {
+        b
+    } else {
+        letter
     }
-    letter
 }
 
 // Sets each letter's twin. A slot holds the last letter that was its own twin there.
-fn fill_twins(
-    table: &[u8; TABLE_SIZE],
-    entries: usize,
-    letters: usize,
-    slots: &mut [u8],
-    twins: &mut [u8],
-)
-    requires { (entries ≤ pair_limit) × (letters ≤ letter_limit) × (slot_count ≤ length slots.old) × (letters ≤ length twins.old) }
-    ensures { Twins letters entries table.now twins.new }
+fn fill_twins(table: Table, slots: &mut [u8], twins: &mut [u8])
+    requires { (slot_count ≤ length slots.old) × (table.letters ≤ length twins.old) }
+    ensures { Twins table.entry.letters (table.entry.vectors / 2) table.entry.entries.now twins.new }
 {
-    let mut a: usize = 0;
-    while a < letters {
-        let k = slot_of(table, entries, a);
-        let b = twin_of(table, entries, a, wide(slots[k]));
+    for a in 0..table.letters {
+        let k = slot_of(table.row(a));
+        let b = twin_of(table, a, usize::from(slots[k]));
         slots[k] = b as u8;
         twins[a] = b as u8;
-        a += 1;
     }
 }
 
-// Each letter's twin: a letter with the same row, which is earlier where one was found and else the letter itself.
-pub(crate) fn find_twins(
-    table: &[u8; TABLE_SIZE],
-    entries: usize,
-    letters: usize,
-) -> [u8; LETTER_LIMIT]
-    requires { (entries ≤ pair_limit) × (letters ≤ letter_limit) }
-    ensures { Twins letters entries table.now result }
+// Each letter's twin.
+pub(crate) fn find_twins(table: Table) -> [u8; LETTER_LIMIT]
+    ensures { Twins table.entry.letters (table.entry.vectors / 2) table.entry.entries.now result }
 {
     let mut slots = [0u8; SLOT_COUNT];
     let mut twins = [0u8; LETTER_LIMIT];
-    fill_twins(table, entries, letters, &mut slots, &mut twins);
+    fill_twins(table, &mut slots, &mut twins);
     twins
 }

@@ -4,10 +4,10 @@
 use Prim.Native.Nat.{ℕ}
 use mathlib.Core.Path.{◌≡◌, sym, ap, ◌∙◌}
 use mathlib.Core.List.{List}
-use Rattle.automaton.specs.Trial.{trial_number, trial_place}
+use Rattle.reader.specs.Refusal.{answer_number, answer_place}
 use Rattle.automaton.proofs.OneAnswer.{one_trial}
-use Rattle.game.specs.declared.follow.Followed.{Followed}
-use Rattle.game.specs.Answer.{answer_number, answer_place, answer_states, answer_round}
+use Rattle.game.specs.Answer.{answer_states, answer_round}
+use Rattle.game.specs.Follower.{FollowAnswer}
 use Rattle.plays.specs.declared.mode.Mode.{Mode}
 use Rattle.plays.specs.Arena.{arena}
 use Rattle.game.specs.Rule.{Buffers}
@@ -55,7 +55,7 @@ one_solve_given i o x y =
     }
 
 -- two runs of `airtable_follow` agree: its promise gives each number as a function of the input
-pub one_follow : {answer : Followed} {state₀ reached₀ state reached row output place number state' reached' row' output' place' number' : ℕ}
+pub one_follow : {answer : FollowAnswer} {state₀ reached₀ state reached row output place number state' reached' row' output' place' number' : ℕ}
     → StepWritten answer state₀ reached₀ state reached row output place number
     → StepWritten answer state₀ reached₀ state' reached' row' output' place' number'
     → StepWrittenAgree state reached row output place number state' reached' row' output' place' number'
@@ -76,7 +76,7 @@ pub one_try_rule : {i o : ℕ} {text letters : List ℕ} {number satisfied place
 one_try_rule x y =
     let e = one_trial x.tried y.tried in
     record {
-      same_number = numbers trial_number e x.number_of y.number_of;
+      same_number = numbers answer_number e x.number_of y.number_of;
       same_satisfied = numbers satisfied_flag e x.satisfied_of y.satisfied_of;
-      same_place = numbers trial_place e x.place_of y.place_of;
+      same_place = numbers answer_place e x.place_of y.place_of;
     }

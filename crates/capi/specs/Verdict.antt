@@ -1,21 +1,21 @@
 -- What the two calls that solve a game write for C: the library's answer in numbers.
 -- Assumes nothing.
-use Rattle.std.specs.Prelude.{ℕ, ◌≡◌}
+use Rattle.std.specs.Prelude.{ℕ, ◌≡◌, Ok, Err}
 use Rattle.plays.specs.Strategy.{Table}
 use Rattle.reader.specs.Text.{Text}
 use Rattle.plays.specs.declared.mode.Mode.{Mode}
-use Rattle.game.specs.declared.answer.Answer.{Answer}
-use Rattle.game.specs.declared.answer.Answer.TheVariants.{Can, Cannot, Refused}
-use Rattle.game.specs.Answer.{answer_number, answer_place, answer_states, answer_round}
+use Rattle.reader.specs.Refusal.{answer_number, answer_place}
+use Rattle.game.specs.declared.answer.Outcome.TheVariants.{Can, Cannot}
+use Rattle.game.specs.Answer.{Answer, answer_states, answer_round}
 use Rattle.plays.specs.Arena.{Arena}
 use Rattle.game.specs.Rule.{Buffers, RuleSolved}
 use Rattle.game.specs.Given.{GivenSolved}
 
 -- 1 for "can", and 0 for "cannot" or a refusal
 abbrev pub can_flag : Answer → ℕ
-can_flag (Can n r) = 1
-can_flag (Cannot n) = 0
-can_flag (Refused x) = 0
+can_flag (Ok (Can n r)) = 1
+can_flag (Ok (Cannot n)) = 0
+can_flag (Err x) = 0
 
 -- the rule call: the library's answer, and the five numbers of it
 pub record RuleWritten (mode : Mode) (i o : ℕ) (rule condition : Text) (old new : Buffers) (number can n round place : ℕ) : Type 0 where

@@ -1,10 +1,8 @@
 // The calls of the engine for C: each answer of the library is written as numbers to places that the caller lends.
 #![tactic(auto)]
 
-mod flags;
-mod step;
-mod trial;
-mod verdict;
+mod answers;
+mod mode;
 
 ghost use Rattle.plays.specs.Arena.{arena};
 ghost use Rattle.game.specs.Rule.{buffers};
@@ -14,10 +12,8 @@ ghost use Rattle.capi.specs.Verdict.{RuleWritten, GivenWritten};
 ghost use Rattle.capi.specs.Step.{position_of, StepWritten};
 ghost use Rattle.capi.specs.Trial.{TrialWritten};
 
-use crate::flags::{mode_at, truth};
-use crate::step::{next_reached, next_state, output_of, row_flag, step_number, step_place};
-use crate::trial::{satisfied_flag, trial_number, trial_place};
-use crate::verdict::{answer_number, answer_place, can_flag, round_of, states_of};
+use crate::answers::{answer_number, answer_place, can_flag, round_of, states_of};
+use crate::mode::mode_at;
 use automaton::trial::try_rule;
 use game::follow::Position;
 use game::given::solve_given;
@@ -59,8 +55,8 @@ pub extern "C" fn airtable_solve_rule(
     *can = can_flag(answer);
     *n = states_of(answer);
     *round = round_of(answer);
-    *place = answer_place(answer);
-    answer_number(answer)
+    *place = answer_place(&answer);
+    answer_number(&answer)
 }
 
 // Solves the game on a given automaton and writes both tables, the verdict and the round number.
@@ -98,8 +94,8 @@ pub extern "C" fn airtable_solve_given(
     );
     *can = can_flag(answer);
     *round = round_of(answer);
-    *place = answer_place(answer);
-    answer_number(answer)
+    *place = answer_place(&answer);
+    answer_number(&answer)
 }
 
 // Follows the station's table by one step and writes the output and the next position.
@@ -124,15 +120,19 @@ pub extern "C" fn airtable_follow(
 {
     let position = Position {
         state: *state,
-        reached: truth(*reached),
+        reached: *reached != 0,
     };
     let answer = position.follow(i, o, n, moves, marks, station, input);
-    *state = next_state(answer, *state);
-    *reached = next_reached(answer, *reached);
-    *row = row_flag(answer);
-    *output = output_of(answer);
-    *place = step_place(answer);
-    step_number(answer)
+    *row = 0;
+    *output = 0;
+    if let Ok(Some(step)) = answer {
+        *state = step.next.state;
+        *reached = u8::from(step.next.reached);
+        *row = 1;
+        *output = step.output;
+    }
+    *place = answer_place(&answer);
+    answer_number(&answer)
 }
 
 // Tries a rule on a list of letters and writes whether the list satisfies it.
@@ -148,7 +148,7 @@ pub extern "C" fn airtable_try_rule(
     ensures { TrialWritten i o rule.now letters.now result satisfied.new place.new }
 {
     let answer = try_rule(i, o, rule, letters);
-    *satisfied = satisfied_flag(answer);
-    *place = trial_place(answer);
-    trial_number(answer)
+    *satisfied = u8::from(answer == Ok(true));
+    *place = answer_place(&answer);
+    answer_number(&answer)
 }

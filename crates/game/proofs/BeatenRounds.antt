@@ -7,7 +7,7 @@ use Rattle.game.specs.inner.Limits.{rank_limit}
 use Rattle.plays.specs.Arena.{Arena, next, holds}
 use Rattle.plays.specs.inner.Rank.{Ranked}
 use Rattle.plays.specs.inner.Beaten.{left, Beaten, over, forced}
-use Rattle.game.specs.inner.Game.{Valid}
+use Rattle.game.specs.inner.Valid.{Valid}
 use Rattle.game.specs.inner.Serving.{ranked_below}
 use Rattle.game.specs.inner.Rounds.{Favorable, Attraction}
 use Rattle.reader.proofs.BoolLaws.{on}

@@ -5,14 +5,14 @@ use Rattle.automaton.specs.Limits.{name_limit, number_limit, state_limit}
 use Rattle.automaton.specs.Alphabet.{bad_alphabet}
 use Rattle.automaton.proofs.AlphabetLaws.{inputs_fit, outputs_fit}
 use Rattle.plays.specs.Arena.{Arena}
-use Rattle.game.specs.inner.Checks.{sizes_of, InRange}
+use Rattle.game.specs.inner.Range.{InRange}
 use Rattle.game.specs.Given.{bad_count, move_count, short_read}
 use Rattle.reader.proofs.BoolLaws.{or_left, or_right}
 
 pub small_power : (k : ℕ) → k ≤ name_limit → 2 ^ k ≤ number_limit
 small_power k h = pow_mono {j = name_limit} h
 
-pub in_range : (n i o : ℕ) → bad_alphabet i o ≡ false → bad_count n ≡ false → InRange (sizes_of n i o)
+pub in_range : (n i o : ℕ) → bad_alphabet i o ≡ false → bad_count n ≡ false → InRange n (2 ^ i) (2 ^ o)
 in_range n i o a b =
     record {
       states_fit = ltb-false state_limit n (or_right (eqb n 0) (ltb state_limit n) b);

@@ -51,3 +51,6 @@ module _ (old new : List ℕ) (ext : Extends old new) where
 
   pub count_more : (n : ℕ) → Grows n old new → ranked_count old n < ranked_count new n
   count_more n g = count_from g.0 g.2 g.3 n g.1
+
+  pub count_grows : (n : ℕ) → Grows n old new → (ranked_count old n < ranked_count new n) × (ranked_count new n ≤ n)
+  count_grows n g = (count_more n g, count_bound new n)

@@ -1,18 +1,16 @@
 -- What the two calls that solve a game promise holds for plays without end: the theorems on the authority's two questions.
 -- Assumes nothing.
 use Rattle.std.proofs.Common.{◌≡◌, ℕ, zero, suc, ◌*◌, ◌<◌, ◌≤◌, true, false, ltb, List, take, sym, ap, ◌∙◌, subst, ⊎_elim, arith, ltb-false, ltb-true}
-use Rattle.reader.specs.declared.refusal.Refusal.TheVariants.{Nothing}
+use Rattle.std.specs.Prelude.{None, Ok}
 use Rattle.reader.specs.Formula.{Formula}
 use Rattle.reader.specs.Marks.{condition_kind}
 use Rattle.reader.specs.Reading.{IsGood}
-use Rattle.reader.specs.Refusal.{number_of}
 use Rattle.reader.proofs.BoolLaws.{on, clash, not_true_is_false}
-use Rattle.reader.proofs.RefusalLaws.{something, refused_or_served}
+use Rattle.reader.proofs.RefusalLaws.{refused_or_served}
 use Rattle.automaton.specs.Trace.{Satisfies}
 use Rattle.automaton.specs.Automaton.{Automaton}
 use Rattle.automaton.specs.Condition.{mask_of, Judges, NoneSatisfies}
-use Rattle.game.specs.declared.answer.Answer.{Answer}
-use Rattle.game.specs.Answer.{verdict_of}
+use Rattle.game.specs.Answer.{Answer, verdict_of}
 use Rattle.plays.specs.declared.mode.Mode.{Mode}
 use Rattle.plays.specs.Arena.{Arena, holds}
 use Rattle.plays.specs.Play.{Step, reaches, letters, Along}
@@ -36,14 +34,14 @@ use Rattle.game.proofs.RuleLaws.{reached_satisfied, satisfied_reached, on_produc
 -- ---- a given automaton
 
 verdict_endless : (mode : Mode) (G : Arena) (σ τ : List ℕ) (start n r : ℕ) → Able mode G → Verdict mode G σ τ start r
-    → GivenEndless mode G σ τ start (verdict_of n r)
+    → GivenEndless mode G σ τ start (Ok (verdict_of n r))
 verdict_endless mode G σ τ start n r able v =
-    of_verdict (GivenEndless mode G σ τ start) n r
+    of_verdict (λ v. GivenEndless mode G σ τ start (Ok v)) n r
     (λ e. (able, environment_endless G mode τ start (v.environment e).wins))
     (λ l. (able, system_endless G mode r σ start (v.system l).1 (Reaching G start) (λ f j follows reached earlier. reached)))
 
 -- an automaton that is not refused has an input with the condition
-given_able : (i o : ℕ) (mode : Mode) (G : Arena) (start : ℕ) (σ τ : List ℕ) → given_refusal i o start G σ τ ≡ Nothing → Able mode G
+given_able : (i o : ℕ) (mode : Mode) (G : Arena) (start : ℕ) (σ τ : List ℕ) → given_refusal i o start G σ τ ≡ None → Able mode G
 given_able i o mode G start σ τ e = met_able mode G (met i o start G σ τ e)
 
 pub given_endless : (i o : ℕ) (mode : Mode) (G : Arena) (start : ℕ) (σ₀ τ₀ σ τ : List ℕ) (r : Answer) → GivenSolved mode i o start G σ₀ τ₀ σ τ r
@@ -51,7 +49,7 @@ pub given_endless : (i o : ℕ) (mode : Mode) (G : Arena) (start : ℕ) (σ₀ �
 given_endless i o mode G start σ₀ τ₀ σ τ r x =
     ⊎_elim
     (λ n. let u = x.served n in subst (GivenEndless mode G σ τ start) (sym u.1) (verdict_endless mode G σ τ start G.states u.0 (given_able i o mode G start σ₀ τ₀ n) u.3))
-    (λ n. subst (GivenEndless mode G σ τ start) (sym (x.refused (something _ n)).0) tt)
+    (λ n. subst (GivenEndless mode G σ τ start) (sym (x.refused n.0 n.1).0) tt)
     (refused_or_served _)
 
 -- ---- a rule: on its automaton a play reaches a goal exactly when a beginning of it satisfies the rule
@@ -111,13 +109,13 @@ module _ (mode : Mode) (i o : ℕ) (rule condition : List ℕ) (old new : Buffer
   texts s = record { formula = s.formula; good = s.good; assumption = s.assumption; assumed = s.assumed; judges = s.judges }
 
   -- a condition that is not refused is met by some input
-  rule_able : {r : Answer} (x : RuleSolved mode i o rule condition old new r) → x.refusal ≡ Nothing → (κ : Formula) → IsGood i (condition_kind i) condition κ
+  rule_able : {r : Answer} (x : RuleSolved mode i o rule condition old new r) → x.refusal ≡ None → (κ : Formula) → IsGood i (condition_kind i) condition κ
       → Judges κ i (mask_of κ i) → (n : ℕ) → Able mode (arena_left i o n new κ)
   unfolding holds
   rule_able x z κ good judges n =
       let G : Arena = arena_left i o n new κ in
       let some : x.none ≡ false =
-      (first_served i o rule condition old x.reading x.condition_reading x.none x.states (ap number_of (sym x.first ∙ z))).1 in
+      (first_served i o rule condition old x.reading x.condition_reading x.none x.states (sym x.first ∙ z)).1 in
       met_able mode G
       (not_true_is_false (none_holds G)
       (λ t.
@@ -126,12 +124,12 @@ module _ (mode : Mode) (i o : ℕ) (rule condition : List ℕ) (old new : Buffer
       clash x.none (x.none_satisfies.1 none) some))
 
   served_endless : (n r : ℕ) (s : RuleServed mode i o rule condition old new n r) → Able mode (arena_left i o n new s.assumption)
-      → RuleEndless mode i o rule condition new (verdict_of n r)
+      → RuleEndless mode i o rule condition new (Ok (verdict_of n r))
   served_endless n r s able =
       let G : Arena = arena_left i o n new s.assumption in
       let A = on_product s.formula i o n new.transitions new.accepting (mask_of s.assumption i) s.automaton in
       let φ = s.formula in
-      of_verdict (RuleEndless mode i o rule condition new) n r
+      of_verdict (λ v. RuleEndless mode i o rule condition new (Ok v)) n r
       (λ e. (texts s, able, cannot_rule φ G A mode new.environment (environment_endless G mode new.environment 0 (s.verdict.environment e).wins)))
       (λ l. (texts s, able, system_endless G mode r new.system 0 (s.verdict.system l).1 (Satisfying φ G) (satisfying φ G A new.system)))
 
@@ -143,5 +141,5 @@ module _ (mode : Mode) (i o : ℕ) (rule condition : List ℕ) (old new : Buffer
       let s = u.2 in
       subst (RuleEndless mode i o rule condition new) (sym u.1)
       (served_endless x.states u.0 s (rule_able x n s.assumption s.assumed s.judges x.states)))
-      (λ n. subst (RuleEndless mode i o rule condition new) (sym (x.refused (something x.refusal n)).0) tt)
+      (λ n. subst (RuleEndless mode i o rule condition new) (sym (x.refused n.0 n.1).0) tt)
       (refused_or_served x.refusal)

@@ -10,7 +10,7 @@ use Rattle.plays.specs.Number.{Won}
 use Rattle.plays.specs.Entry.{Lowest, FairServes, StableServes, StableEntries, Entries}
 use Rattle.plays.specs.inner.Rank.{mode_of, Ranking, AllowedOutput, AllowedInput}
 use Rattle.game.specs.Tables.{need_limit}
-use Rattle.game.specs.inner.Game.{Valid}
+use Rattle.game.specs.inner.Valid.{Valid}
 use Rattle.game.specs.inner.Rounds.{Found}
 use Rattle.game.specs.inner.Solution.{Solves}
 use Rattle.reader.proofs.BoolLaws.{on, clash}

@@ -2,10 +2,11 @@
 -- property of refusals holds of it where it holds of each one that may come.
 -- Assumes nothing.
 use Rattle.std.proofs.Common.{◌≡◌, ℕ, ◌<◌, ◌≤◌, Bool, true, false, ◌||◌, ltb, List, sym, refl, subst, arith, ltb-false, ltb-true}
-use Rattle.reader.specs.declared.reading.Reading.{Reading}
-use Rattle.reader.specs.declared.reading.Reading.TheVariants.{Good, TooLong, Bad, TooManyNodes, TooManyOperators}
+use Rattle.std.specs.Prelude.{Option, Some, None, Ok, Err}
+use Rattle.reader.specs.Reading.{Reading}
+use Rattle.reader.specs.declared.reading.Unreadable.TheVariants.{TooLong, Bad, TooManyNodes, TooManyOperators}
 use Rattle.reader.specs.declared.refusal.Refusal.{Refusal}
-use Rattle.reader.specs.declared.refusal.Refusal.TheVariants.{Nothing, Alphabet, TextLength, Buffer, RuleText, RuleNodes, RuleOperators}
+use Rattle.reader.specs.declared.refusal.Refusal.TheVariants.{Alphabet, TextLength, Buffer, RuleText, RuleNodes, RuleOperators}
 use Rattle.reader.specs.declared.refusal.Refusal.TheVariants.{ConditionText, ConditionNodes, StateCount, Unsatisfiable}
 use Rattle.reader.specs.Limits.{too_long}
 use Rattle.reader.specs.Refusal.{number_of, needed_of}
@@ -18,23 +19,23 @@ use Rattle.game.specs.Rule.{Buffers, short_buffers, size_refusal, rule_refusal}
 pub data Early (ρ κ : Reading) : Refusal → Type 0 where
   alphabet : Early ρ κ Alphabet
   text_length : Early ρ κ TextLength
-  rule_text : (k : ℕ) → ρ ≡ Bad k → Early ρ κ (RuleText k)
+  rule_text : (k : ℕ) → ρ ≡ Err (Bad k) → Early ρ κ (RuleText k)
   rule_nodes : Early ρ κ RuleNodes
   rule_operators : Early ρ κ RuleOperators
-  condition_text : (k : ℕ) → κ ≡ Bad k → Early ρ κ (ConditionText k)
+  condition_text : (k : ℕ) → κ ≡ Err (Bad k) → Early ρ κ (ConditionText k)
   condition_nodes : Early ρ κ ConditionNodes
   unsatisfiable : Early ρ κ Unsatisfiable
 
--- none of them is 3, or no refusal
-pub early_number : {ρ κ : Reading} {x : Refusal} → Early ρ κ x → (number_of x ≡ 0 → ⊥) × (number_of x ≡ 3 → ⊥)
-early_number alphabet = (λ e. omega arith, λ e. omega arith)
-early_number text_length = (λ e. omega arith, λ e. omega arith)
-early_number (rule_text k e) = (λ e. omega arith, λ e. omega arith)
-early_number rule_nodes = (λ e. omega arith, λ e. omega arith)
-early_number rule_operators = (λ e. omega arith, λ e. omega arith)
-early_number (condition_text k e) = (λ e. omega arith, λ e. omega arith)
-early_number condition_nodes = (λ e. omega arith, λ e. omega arith)
-early_number unsatisfiable = (λ e. omega arith, λ e. omega arith)
+-- none of them is 3
+pub early_number : {ρ κ : Reading} {x : Refusal} → Early ρ κ x → number_of x ≡ 3 → ⊥
+early_number alphabet = λ e. omega arith
+early_number text_length = λ e. omega arith
+early_number (rule_text k e) = λ e. omega arith
+early_number rule_nodes = λ e. omega arith
+early_number rule_operators = λ e. omega arith
+early_number (condition_text k e) = λ e. omega arith
+early_number condition_nodes = λ e. omega arith
+early_number unsatisfiable = λ e. omega arith
 
 -- none of them tells a number of states
 pub early_needed : {ρ κ : Reading} {x : Refusal} → Early ρ κ x → needed_of x ≡ 0
@@ -49,7 +50,7 @@ early_needed unsatisfiable = refl
 
 -- ---- which one comes first: one of these, or the one by the number of states
 pub data First (i o : ℕ) (rule condition : List ℕ) (ρ κ : Reading) (none : Bool) : Type 0 where
-  early : (x : Refusal) → Early ρ κ x → ((old : Buffers) (n : ℕ) → rule_refusal i o rule condition old ρ κ none n ≡ x) → First i o rule condition ρ κ none
+  early : (x : Refusal) → Early ρ κ x → ((old : Buffers) (n : ℕ) → rule_refusal i o rule condition old ρ κ none n ≡ Some x) → First i o rule condition ρ κ none
   by_size : bad_alphabet i o ≡ false → none ≡ false
       → ((old : Buffers) (n : ℕ) → rule_refusal i o rule condition old ρ κ none n ≡ size_refusal i o old n)
       → First i o rule condition ρ κ none
@@ -58,16 +59,16 @@ module _ (i o : ℕ) (rule condition : List ℕ) where
   module _ (a : bad_alphabet i o ≡ false) (b : (too_long rule || too_long condition) ≡ false) where
     by_readings : (ρ κ : Reading) (none : Bool) → First i o rule condition ρ κ none
     unfolding rule_refusal
-    by_readings (Good l) (Good m) true = early Unsatisfiable unsatisfiable (λ old n. rw (a, b))
-    by_readings (Good l) (Good m) false = by_size a refl (λ old n. rw (a, b))
-    by_readings (Good l) TooLong none = early TextLength text_length (λ old n. rw (a, b))
-    by_readings (Good l) (Bad k) none = early (ConditionText k) (condition_text k refl) (λ old n. rw (a, b))
-    by_readings (Good l) TooManyNodes none = early ConditionNodes condition_nodes (λ old n. rw (a, b))
-    by_readings (Good l) TooManyOperators none = early ConditionNodes condition_nodes (λ old n. rw (a, b))
-    by_readings TooLong κ none = early TextLength text_length (λ old n. rw (a, b))
-    by_readings (Bad k) κ none = early (RuleText k) (rule_text k refl) (λ old n. rw (a, b))
-    by_readings TooManyNodes κ none = early RuleNodes rule_nodes (λ old n. rw (a, b))
-    by_readings TooManyOperators κ none = early RuleOperators rule_operators (λ old n. rw (a, b))
+    by_readings (Ok l) (Ok m) true = early Unsatisfiable unsatisfiable (λ old n. rw (a, b))
+    by_readings (Ok l) (Ok m) false = by_size a refl (λ old n. rw (a, b))
+    by_readings (Ok l) (Err TooLong) none = early TextLength text_length (λ old n. rw (a, b))
+    by_readings (Ok l) (Err (Bad k)) none = early (ConditionText k) (condition_text k refl) (λ old n. rw (a, b))
+    by_readings (Ok l) (Err TooManyNodes) none = early ConditionNodes condition_nodes (λ old n. rw (a, b))
+    by_readings (Ok l) (Err TooManyOperators) none = early ConditionNodes condition_nodes (λ old n. rw (a, b))
+    by_readings (Err TooLong) κ none = early TextLength text_length (λ old n. rw (a, b))
+    by_readings (Err (Bad k)) κ none = early (RuleText k) (rule_text k refl) (λ old n. rw (a, b))
+    by_readings (Err TooManyNodes) κ none = early RuleNodes rule_nodes (λ old n. rw (a, b))
+    by_readings (Err TooManyOperators) κ none = early RuleOperators rule_operators (λ old n. rw (a, b))
 
   pub comes_first : (ρ κ : Reading) (none : Bool) → First i o rule condition ρ κ none
   unfolding rule_refusal
@@ -81,13 +82,13 @@ module _ (i o : ℕ) (rule condition : List ℕ) where
 -- ---- a property of the one that comes first
 
 -- each refusal that may come has the property, told what was tested before it
-pub record EachHas (P : Refusal → Type 0) (i o : ℕ) (old : Buffers) (ρ κ : Reading) (none : Bool) (n : ℕ) : Type 0 where
-  pub before : (x : Refusal) → Early ρ κ x → P x
-  pub count : state_limit < n → P StateCount
-  pub buffer : bad_alphabet i o ≡ false → n ≤ state_limit → short_buffers i o n old ≡ true → P (Buffer n)
-  pub nothing : bad_alphabet i o ≡ false → none ≡ false → n ≤ state_limit → short_buffers i o n old ≡ false → P Nothing
+pub record EachHas (P : Option Refusal → Type 0) (i o : ℕ) (old : Buffers) (ρ κ : Reading) (none : Bool) (n : ℕ) : Type 0 where
+  pub before : (x : Refusal) → Early ρ κ x → P (Some x)
+  pub count : state_limit < n → P (Some StateCount)
+  pub buffer : bad_alphabet i o ≡ false → n ≤ state_limit → short_buffers i o n old ≡ true → P (Some (Buffer n))
+  pub nothing : bad_alphabet i o ≡ false → none ≡ false → n ≤ state_limit → short_buffers i o n old ≡ false → P None
 
-module _ (P : Refusal → Type 0) (i o : ℕ) (rule condition : List ℕ) (old : Buffers) (n : ℕ) (ρ κ : Reading) (none : Bool)
+module _ (P : Option Refusal → Type 0) (i o : ℕ) (rule condition : List ℕ) (old : Buffers) (n : ℕ) (ρ κ : Reading) (none : Bool)
     (e : EachHas P i o old ρ κ none n) where
   size_has : bad_alphabet i o ≡ false → none ≡ false → P (size_refusal i o old n)
   size_has a m =
@@ -110,12 +111,12 @@ abbrev pub Served : (i o : ℕ) (old : Buffers) (none : Bool) (n : ℕ) → Type
 Served i o old none n = (bad_alphabet i o ≡ false) × (none ≡ false) × (n ≤ state_limit) × (short_buffers i o n old ≡ false)
 
 pub first_served : (i o : ℕ) (rule condition : List ℕ) (old : Buffers) (ρ κ : Reading) (none : Bool) (n : ℕ)
-    → number_of (rule_refusal i o rule condition old ρ κ none n) ≡ 0 → Served i o old none n
+    → rule_refusal i o rule condition old ρ κ none n ≡ None → Served i o old none n
 first_served i o rule condition old ρ κ none n =
-    first_has (λ x. number_of x ≡ 0 → Served i o old none n) i o rule condition old n ρ κ none
+    first_has (λ x. x ≡ None → Served i o old none n) i o rule condition old n ρ κ none
     record {
-      before = λ x h e. absurd ((early_number h).0 e);
-      count = λ _ e. absurd (omega arith);
-      buffer = λ _ _ _ e. absurd (omega arith);
+      before = λ x h e. let z : ◌≡◌ {A = ℕ} 0 1 = cc in absurd (omega arith);
+      count = λ _ e. let z : ◌≡◌ {A = ℕ} 0 1 = cc in absurd (omega arith);
+      buffer = λ _ _ _ e. let z : ◌≡◌ {A = ℕ} 0 1 = cc in absurd (omega arith);
       nothing = λ a m l s _. (a, m, l, s);
     }

@@ -3,7 +3,7 @@
 use Rattle.std.proofs.Common.{◌≡◌, ℕ, ◌<◌, Bool, true, false, ◌⊎◌}
 use Rattle.plays.specs.Arena.{Arena, next}
 use Rattle.plays.specs.inner.Rank.{Safe, Forces}
-use Rattle.game.specs.inner.Game.{Valid}
+use Rattle.game.specs.inner.Valid.{Valid}
 use Rattle.game.specs.inner.Rounds.{Favorable}
 use Rattle.game.proofs.IndexLaws.{next_below}
 

@@ -1,81 +1,84 @@
 -- The refusals of the call for a given automaton: which test decides, and what is known where none does.
 -- Assumes nothing.
-use Rattle.std.proofs.Common.{◌≡◌, ℕ, ◌*◌, ◌<◌, ◌≤◌, Bool, true, false, cond, ◌||◌, ltb, leb, List, length, get_or, take, sym, refl, ap, ◌∙◌, subst, arith, length-take-le, get_or-take, pow_pos, ltb-false, le-ltb, lt-ltb, le-leb, leb-false}
+use Rattle.std.proofs.Common.{◌≡◌, ℕ, ◌*◌, ◌<◌, ◌≤◌, Bool, true, false, cond, ◌||◌, ltb, leb, List, length, get_or, take, sym, refl, ap, ◌∙◌, ◌⊎◌, subst, arith, length-take-le, get_or-take, pow_pos, ltb-false, le-ltb, lt-ltb, le-leb, leb-false}
 use borrow.Author.Tests.{lt-leb}
+use Rattle.std.specs.Prelude.{Option, Some, None}
 use Rattle.reader.specs.declared.refusal.Refusal.{Refusal}
-use Rattle.reader.specs.declared.refusal.Refusal.TheVariants.{Nothing, Alphabet, Buffer, GivenCount, Move, State, Value, Unsatisfiable}
-use Rattle.reader.specs.Refusal.{number_of, place_of}
+use Rattle.reader.specs.declared.refusal.Refusal.TheVariants.{Alphabet, Buffer, GivenCount, Move, State, Value, Unsatisfiable}
 use Rattle.automaton.specs.Alphabet.{bad_alphabet, first_over}
 use Rattle.automaton.proofs.FirstOverLaws.{none_over, letter_at}
-use Rattle.game.specs.declared.answer.Answer.TheVariants.{Refused}
-use Rattle.game.specs.Answer.{verdict_of}
-use Rattle.plays.specs.declared.mode.Mode.{Mode}
 use Rattle.plays.specs.Arena.{Arena, arena}
-use Rattle.game.specs.inner.Game.{Valid}
-use Rattle.game.specs.Tables.{Tables, Verdict}
-use Rattle.game.specs.Given.{bad_count, move_count, short_read, short_strategy, short_tables, bad_mask, none_holds, later_refusal, given_refusal, Solved}
+use Rattle.game.specs.inner.Valid.{Valid}
+use Rattle.game.specs.Given.{bad_count, move_count, short_read, short_strategy, short_tables, bad_mask, none_holds, later_refusal, given_refusal}
 use Rattle.reader.proofs.BoolLaws.{or_left, or_right}
-use Rattle.game.proofs.AnswerLaws.{verdict_number, verdict_place}
 use Rattle.game.proofs.CheckLaws.{in_range, transitions_long, accepting_long}
+
+-- the moves that are read
+abbrev moves : (G : Arena) → List ℕ
+moves G = take (move_count G) G.transitions
 
 -- the test that decides, in the order 3, 12, 11, 13, 15
 module _ (start : ℕ) (G : Arena) (σ τ : List ℕ) where
-  pub read_refused : short_read G ≡ true → Buffer G.states ≡ later_refusal start G σ τ
+  pub short_refused : (short_read G || short_tables G σ τ) ≡ true → Some (Buffer G.states) ≡ later_refusal start G σ τ
   unfolding later_refusal
-  read_refused a = rw a
+  short_refused a = rw a
 
   module _ (a : short_read G ≡ false) where
-    pub tables_refused : short_tables G σ τ ≡ true → Buffer G.states ≡ later_refusal start G σ τ
-    unfolding later_refusal
-    tables_refused b = rw (a, b)
-
     module _ (b : short_tables G σ τ ≡ false) where
-      pub state_refused : G.states ≤ start → State ≡ later_refusal start G σ τ
+      pub state_refused : G.states ≤ start → Some State ≡ later_refusal start G σ τ
       unfolding later_refusal
       state_refused c = rw (a, b, le-leb G.states start c)
 
-      module _ (c : start < G.states) (k : ℕ) (is : k ≡ first_over G.states (take (move_count G) G.transitions)) where
-        share : length (take (move_count G) G.transitions) ≡ move_count G
-        share = length-take-le (move_count G) G.transitions (transitions_long G a)
-
-        pub move_refused : k < move_count G → Move k ≡ later_refusal start G σ τ
+      module _ (c : start < G.states) where
+        pub move_refused : (k : ℕ) → (k ≡ first_over G.states (moves G)) × (k < length (moves G))
+            → Some (Move k) ≡ later_refusal start G σ τ
         unfolding later_refusal
-        move_refused d =
-            rw (a, b, lt-leb G.states start c, share, ← is, lt-ltb k (move_count G) d)
+        move_refused k d =
+            rw (a, b, lt-leb G.states start c, ← d.0, lt-ltb k (length (moves G)) d.1)
 
-        module _ (d : move_count G ≤ k) where
-          pub mask_refused : bad_mask G ≡ true → Value 0 ≡ later_refusal start G σ τ
+        module _ (d : first_over G.states (moves G) ≡ length (moves G)) where
+          none_over_bound : ltb (first_over G.states (moves G)) (length (moves G)) ≡ false
+          none_over_bound = le-ltb (first_over G.states (moves G)) (length (moves G)) (omega (arith, d))
+
+          pub mask_refused : bad_mask G ≡ true → Some (Value 0) ≡ later_refusal start G σ τ
           unfolding later_refusal
-          mask_refused e = rw (a, b, lt-leb G.states start c, share, ← is, le-ltb k (move_count G) d, e)
+          mask_refused e = rw (a, b, lt-leb G.states start c, none_over_bound, e)
 
           module _ (e : bad_mask G ≡ false) where
-            pub unmet_refused : none_holds G ≡ true → Unsatisfiable ≡ later_refusal start G σ τ
+            pub unmet_refused : none_holds G ≡ true → Some Unsatisfiable ≡ later_refusal start G σ τ
             unfolding later_refusal
-            unmet_refused f = rw (a, b, lt-leb G.states start c, share, ← is, le-ltb k (move_count G) d, e, f)
+            unmet_refused f = rw (a, b, lt-leb G.states start c, none_over_bound, e, f)
 
-            pub none_refused : none_holds G ≡ false → Nothing ≡ later_refusal start G σ τ
+            pub none_refused : none_holds G ≡ false → None ≡ later_refusal start G σ τ
             unfolding later_refusal
-            none_refused f = rw (a, b, lt-leb G.states start c, share, ← is, le-ltb k (move_count G) d, e, f)
+            none_refused f = rw (a, b, lt-leb G.states start c, none_over_bound, e, f)
 
 -- the tests before them, 1 and 10
 module _ (i o start : ℕ) (G : Arena) (σ τ : List ℕ) where
-  pub alphabet_refused : bad_alphabet i o ≡ true → Alphabet ≡ given_refusal i o start G σ τ
+  pub alphabet_refused : bad_alphabet i o ≡ true → Some Alphabet ≡ given_refusal i o start G σ τ
   unfolding given_refusal
   alphabet_refused a = rw a
 
   module _ (a : bad_alphabet i o ≡ false) where
-    pub count_refused : bad_count G.states ≡ true → GivenCount ≡ given_refusal i o start G σ τ
+    pub count_refused : bad_count G.states ≡ true → Some GivenCount ≡ given_refusal i o start G σ τ
     unfolding given_refusal
     count_refused b = rw (a, b)
 
-    pub refused_later : bad_count G.states ≡ false → (r : Refusal) → r ≡ later_refusal start G σ τ → r ≡ given_refusal i o start G σ τ
+    pub refused_later : bad_count G.states ≡ false → (r : Option Refusal) → r ≡ later_refusal start G σ τ → r ≡ given_refusal i o start G σ τ
     unfolding given_refusal
     refused_later b r h = rw (a, b) h
 
+-- so the refusal of a number that is out of range comes first
+pub unsized : (i o start : ℕ) (G : Arena) (σ τ : List ℕ) (y : Refusal)
+    → ((bad_alphabet i o ≡ true) × (y ≡ Alphabet)) ⊎ ((bad_alphabet i o ≡ false) × (bad_count G.states ≡ true) × (y ≡ GivenCount))
+    → given_refusal i o start G σ τ ≡ Some y
+unsized i o start G σ τ y (◌⊎◌.inl u) = sym (ap Some u.1 ∙ alphabet_refused i o start G σ τ u.0)
+unsized i o start G σ τ y (◌⊎◌.inr u) = sym (ap Some u.2 ∙ count_refused i o start G σ τ u.0 u.1)
+
 -- where nothing is refused, the test before it passed
-pub passed : (b : Bool) (x y : Refusal) → 0 < number_of x → cond b x y ≡ Nothing → (b ≡ false) × (y ≡ Nothing)
-passed true x y p e = let z : ⊥ = omega (arith, ap number_of e) in absurd z
-passed false x y p e = (refl, e)
+pub passed : (b : Bool) (x : Refusal) (y : Option Refusal) → cond b (Some x) y ≡ None → (b ≡ false) × (y ≡ None)
+passed true x y e = let z : ◌≡◌ {A = ℕ} 0 1 = cc in absurd (omega arith)
+passed false x y e = (refl, e)
 
 -- what is known of an automaton that is not refused
 pub record Accepted (i o start : ℕ) (G : Arena) (σ τ : List ℕ) : Type 0 where
@@ -94,15 +97,15 @@ record Later (start : ℕ) (G : Arena) (σ τ : List ℕ) : Type 0 where
   pub closed : (k : ℕ) → k < move_count G → get_or G.transitions k 0 < G.states
   pub some_holds : none_holds G ≡ false
 
-later_accepted : (start : ℕ) (G : Arena) (σ τ : List ℕ) → later_refusal start G σ τ ≡ Nothing → Later start G σ τ
+later_accepted : (start : ℕ) (G : Arena) (σ τ : List ℕ) → later_refusal start G σ τ ≡ None → Later start G σ τ
 unfolding later_refusal
 later_accepted start G σ τ e =
-    let T = take (move_count G) G.transitions in
-    let short = passed (short_read G || short_tables G σ τ) (Buffer G.states) _ (omega arith) e in
-    let state = passed (leb G.states start) State _ (omega arith) short.1 in
-    let move = passed (ltb (first_over G.states T) (length T)) (Move (first_over G.states T)) _ (omega arith) state.1 in
-    let mask = passed (bad_mask G) (Value 0) _ (omega arith) move.1 in
-    let unmet = passed (none_holds G) Unsatisfiable _ (omega arith) mask.1 in
+    let T = moves G in
+    let short = passed (short_read G || short_tables G σ τ) (Buffer G.states) _ e in
+    let state = passed (leb G.states start) State _ short.1 in
+    let move = passed (ltb (first_over G.states T) (length T)) (Move (first_over G.states T)) _ state.1 in
+    let mask = passed (bad_mask G) (Value 0) _ move.1 in
+    let unmet = passed (none_holds G) Unsatisfiable _ mask.1 in
     let read = or_left (short_read G) (short_tables G σ τ) short.0 in
     let share : length T ≡ move_count G = length-take-le (move_count G) G.transitions (transitions_long G read) in
     record {
@@ -116,21 +119,21 @@ later_accepted start G σ τ e =
     }
 
 -- some input has the condition
-pub met : (i o start : ℕ) (G : Arena) (σ τ : List ℕ) → given_refusal i o start G σ τ ≡ Nothing → none_holds G ≡ false
+pub met : (i o start : ℕ) (G : Arena) (σ τ : List ℕ) → given_refusal i o start G σ τ ≡ None → none_holds G ≡ false
 unfolding given_refusal
 met i o start G σ τ e =
-    let alphabet = passed (bad_alphabet i o) Alphabet _ (omega arith) e in
-    let count = passed (bad_count G.states) GivenCount _ (omega arith) alphabet.1 in
+    let alphabet = passed (bad_alphabet i o) Alphabet _ e in
+    let count = passed (bad_count G.states) GivenCount _ alphabet.1 in
     (later_accepted start G σ τ count.1).some_holds
 
 pub accepted : (i o start n : ℕ) (transitions flags : List ℕ) (mask : ℕ) (σ τ : List ℕ)
-    → given_refusal i o start (arena i o n transitions flags mask) σ τ ≡ Nothing
+    → given_refusal i o start (arena i o n transitions flags mask) σ τ ≡ None
     → Accepted i o start (arena i o n transitions flags mask) σ τ
 unfolding given_refusal
 accepted i o start n transitions flags mask σ τ e =
     let G = arena i o n transitions flags mask in
-    let alphabet = passed (bad_alphabet i o) Alphabet _ (omega arith) e in
-    let count = passed (bad_count n) GivenCount _ (omega arith) alphabet.1 in
+    let alphabet = passed (bad_alphabet i o) Alphabet _ e in
+    let count = passed (bad_count n) GivenCount _ alphabet.1 in
     let later = later_accepted start G σ τ count.1 in
     let range = in_range n i o alphabet.0 count.0 in
     let tables = later.tables in
@@ -151,19 +154,4 @@ accepted i o start n transitions flags mask σ τ e =
       outputs_some = pow_pos o;
       system_long = ltb-false (length σ) (n * G.inputs) (or_left (short_strategy G σ) (ltb (length τ) n) tables);
       environment_long = ltb-false (length τ) n (or_right (short_strategy G σ) (ltb (length τ) n) tables);
-    }
-
--- the promise of a refused call, and of a served one
-pub solved_refused : (refusal : Refusal) (mode : Mode) (start : ℕ) (G : Arena) (σ τ : List ℕ) → (refusal ≡ Nothing → ⊥)
-    → Solved refusal mode start G σ τ σ τ (Refused refusal)
-solved_refused refusal mode start G σ τ ne = record { number = refl; place = refl; refused = λ _. (refl, refl, refl); served = λ e. absurd (ne e) }
-
-pub solved_served : (refusal : Refusal) (mode : Mode) (start : ℕ) (G : Arena) (σ₀ τ₀ σ τ : List ℕ) (r : ℕ) → refusal ≡ Nothing → Tables mode G σ₀ τ₀ σ τ
-    → Verdict mode G σ τ start r → Solved refusal mode start G σ₀ τ₀ σ τ (verdict_of G.states r)
-solved_served refusal mode start G σ₀ τ₀ σ τ r e t v =
-    record {
-      number = verdict_number G.states r ∙ sym (ap number_of e);
-      place = verdict_place G.states r ∙ sym (ap place_of e);
-      refused = λ ne. absurd (ne e);
-      served = λ _. (r, refl, t, v);
     }

@@ -3,7 +3,7 @@
 use Rattle.std.proofs.Common.{ℕ, ◌+◌, ◌*◌, ◌<◌, ◌≤◌, mul-le-mul_right, suc-mul, mul-le-mul, mul-le-mul_left, mul-suc, arith}
 use Rattle.automaton.specs.Limits.{state_limit, number_limit, letter_limit}
 use Rattle.plays.specs.Arena.{Arena, next}
-use Rattle.game.specs.inner.Game.{Valid}
+use Rattle.game.specs.inner.Valid.{Valid}
 
 -- a letter's number is below the number of letters
 pub letter_below : (P Q x y : ℕ) → x < P → y < Q → x + P * y < P * Q

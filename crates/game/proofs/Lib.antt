@@ -7,7 +7,6 @@ pub mod ServingLaws
 pub mod SearchLaws
 pub mod AttractionLaws
 pub mod PassLaws
-pub mod PromotionLaws
 pub mod BeatenRounds
 pub mod OutplayedRounds
 pub mod OuterRankLaws
@@ -20,7 +19,6 @@ pub mod TableLaws
 pub mod EntryFilled
 pub mod StrategyLaws
 pub mod CheckLaws
-pub mod RefusalLaws
 pub mod MetLaws
 pub mod GivenLaws
 pub mod FollowLaws

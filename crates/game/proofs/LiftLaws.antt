@@ -6,8 +6,8 @@ use Rattle.automaton.specs.Limits.{state_limit}
 use Rattle.plays.specs.Arena.{Arena, next, goal, holds}
 use Rattle.plays.specs.inner.Rank.{Forces, Ranked}
 use Rattle.plays.specs.inner.Beaten.{Beaten, forced}
-use Rattle.game.specs.inner.Game.{Valid}
-use Rattle.game.specs.inner.Serving.{ranked_below, safe_below, FirstUnserved}
+use Rattle.game.specs.inner.Valid.{Valid}
+use Rattle.game.specs.inner.Serving.{ranked_below, safe_below, IsUnserved, AllServed}
 use Rattle.game.specs.inner.Needs.{Bounds, Shrinks, Stands, raised_need, height_of, Higher, NextNeed, Swept}
 use Rattle.game.specs.inner.Wide.{Enters, Bars}
 use Rattle.reader.proofs.BoolLaws.{on, clash}
@@ -50,10 +50,10 @@ beq_true false = refl
 
 -- what the first input that no output serves says of state s: every input has an output into a need below p, or within the limit m, as its condition asks,
 -- or one has none
-module _ {G : Arena} (m : ℕ) (needs : List ℕ) (p : ℕ) {s r : ℕ} (u : FirstUnserved G (ranked_below p needs) (safe_below true (m + 1) needs) s r) where
-  pub all_enter : G.inputs ≤ r → Forces G true s (Enters G m p needs)
+module _ (G : Arena) (m : ℕ) (needs : List ℕ) (p s : ℕ) where
+  pub all_enter : AllServed G (ranked_below p needs) (safe_below true (m + 1) needs) s → Forces G true s (Enters G m p needs)
   all_enter all x h =
-      let w = served_at u all x h in
+      let w = served_at G (ranked_below p needs) (safe_below true (m + 1) needs) s all x h in
       let t = next G s x w.0 in (
         w.0,
         w.1,
@@ -67,10 +67,10 @@ module _ {G : Arena} (m : ℕ) (needs : List ℕ) (p : ℕ) {s r : ℕ} (u : Fir
             w.2,
       )
 
-  bars_at : r < G.inputs → (y : ℕ) → y < G.outputs → (goal G (next G s r y) ≡ false) × Bars G m p needs r (next G s r y)
-  bars_at one y h =
+  bars_at : (r : ℕ) → IsUnserved G (ranked_below p needs) (safe_below true (m + 1) needs) s r → (y : ℕ) → y < G.outputs → (goal G (next G s r y) ≡ false) × Bars G m p needs r (next G s r y)
+  bars_at r u y h =
       let t = next G s r y in
-      let w = unserved_at u one y h in (
+      let w = unserved_at G (ranked_below p needs) (safe_below true (m + 1) needs) s r u y h in (
         w.0,
         λ some. (
           (λ e. not_lower p needs t (rw e at w.1) some),
@@ -78,8 +78,8 @@ module _ {G : Arena} (m : ℕ) (needs : List ℕ) (p : ℕ) {s r : ℕ} (u : Fir
         ),
       )
 
-  pub one_bars : r < G.inputs → Forces G false s (Bars G m p needs)
-  one_bars one = (r, one, bars_at one)
+  pub one_bars : (r : ℕ) → r < G.inputs → IsUnserved G (ranked_below p needs) (safe_below true (m + 1) needs) s r → Forces G false s (Bars G m p needs)
+  one_bars r one u = (r, one, bars_at r u)
 
 -- a state without a need has none to lift
 pub look_none : {G : Arena} {l : ℕ} {needs : List ℕ} {s : ℕ} → get_or needs s 0 ≡ 0 → NextNeed G l needs s 0
@@ -105,25 +105,25 @@ look_above {needs = needs} {s} b hs above =
     }
 
 -- a state with a need of at most the limit, by the first input that no output serves
-module _ {G : Arena} (v : Valid G) {l : ℕ} {needs : List ℕ} {s r : ℕ} (b : Bounds G l needs) (hs : s < G.states) (some : 0 < get_or needs s 0)
-    (within : get_or needs s 0 ≤ l) (u : FirstUnserved G (ranked_below (get_or needs s 0) needs) (safe_below true (l + 1) needs) s r) where
+module _ {G : Arena} (v : Valid G) {l : ℕ} {needs : List ℕ} {s : ℕ} (b : Bounds G l needs) (hs : s < G.states) (some : 0 < get_or needs s 0)
+    (within : get_or needs s 0 ≤ l) where
   abbrev own : ℕ
   own = get_or needs s 0
 
   -- all inputs are served: the need stands
-  pub look_stands : G.inputs ≤ r → NextNeed G l needs s own
+  pub look_stands : AllServed G (ranked_below (get_or needs s 0) needs) (safe_below true (l + 1) needs) s → NextNeed G l needs s own
   look_stands all =
       record {
-        stands = λ _ _. (within, all_enter l needs own u all);
+        stands = λ _ _. (within, all_enter G l needs own s all);
         lifts = λ d. absurd (d refl);
       }
 
-  module _ (one : r < G.inputs) where
+  module _ {r : ℕ} (one : r < G.inputs) (u : IsUnserved G (ranked_below (get_or needs s 0) needs) (safe_below true (l + 1) needs) s r) where
     entered : (y : ℕ) → y < G.outputs → next G s r y < G.states
     entered y hy = next_below v s r y hs one hy
 
     bars : (y : ℕ) → y < G.outputs → (goal G (next G s r y) ≡ false) × Bars G l own needs r (next G s r y)
-    bars = bars_at l needs own u one
+    bars = bars_at G l needs own s r u
 
     -- an input with the condition is unserved: each output leaves the system beaten with one less than the need, so it is beaten with the need
     module _ (has : holds G r ≡ true) where
@@ -247,10 +247,6 @@ module _ {G : Arena} {l : ℕ} {old needs : List ℕ} {k : ℕ} {lifted : Bool} 
         more = λ e. (k, omega arith, omega (arith, so_far.rises k, lifted_here b hk high long));
         stand = λ e. absurd (mathlib.Core.Bool.true≢false e);
       }
-
-  -- the same sweep, by another name for the number of states passed
-  pub sweep_over : {n : ℕ} → k ≡ n → Swept G l old needs n lifted
-  sweep_over e = subst (λ (i : ℕ). Swept G l old needs i lifted) e so_far
 
 -- after a sweep that lifted none the needs are a certificate, and within the limit
 module _ {G : Arena} {l : ℕ} {old needs : List ℕ} {lifted : Bool} (last : Swept G l old needs G.states lifted) (e : lifted ≡ false) where

@@ -57,10 +57,6 @@ module _ {system needs : List ℕ} {n : ℕ} (so_far : Marked n system needs) wh
               (λ d. omega (arith, other t d, so_far.every t (omega arith) p));
         }
 
--- the same marks, by another name for the number of states passed
-pub mark_over : {system needs : List ℕ} {k n : ℕ} → k ≡ n → Marked k system needs → Marked n system needs
-mark_over {system} {needs} e h = subst (λ (i : ℕ). Marked i system needs) e h
-
 -- with these needs the system is beaten as they say, whatever the limit
 pub marked_bounds : {G : Arena} {system needs : List ℕ} → Marked G.states system needs → UnrankedBeaten G system → (l : ℕ) → Bounds G l needs
 marked_bounds {G} {system} {needs} m lost l =

@@ -2,14 +2,14 @@
 -- says. The answer, both of the automaton's buffers and every byte of both tables are determined.
 -- Assumes nothing.
 use Rattle.std.proofs.Common.{◌≡◌, ℕ, ◌+◌, ◌*◌, ◌/◌, ◌%◌, ◌<◌, Bool, true, false, cond, ◌||◌, ◌⊎◌, List, get_or, sym, refl, ap, ◌∙◌, subst, ap₂, ⊎_elim, mod-lt, div-lt_iff_lt-mul, div-add-mod', pow_pos}
-use Rattle.reader.specs.declared.reading.Reading.{Reading}
+use Rattle.std.specs.Prelude.{Option, Some, None, Ok}
 use Rattle.reader.specs.declared.refusal.Refusal.{Refusal}
-use Rattle.reader.specs.declared.refusal.Refusal.TheVariants.{Nothing, Alphabet, TextLength}
+use Rattle.reader.specs.declared.refusal.Refusal.TheVariants.{Alphabet, TextLength}
 use Rattle.reader.specs.Limits.{too_long}
 use Rattle.reader.specs.Formula.{Formula}
 use Rattle.reader.specs.Marks.{rule_kind}
-use Rattle.reader.specs.Reading.{ReadingOf}
-use Rattle.reader.proofs.RefusalLaws.{something, refused_or_served}
+use Rattle.reader.specs.Reading.{Reading, ReadingOf}
+use Rattle.reader.proofs.RefusalLaws.{refused_or_served}
 use Rattle.reader.proofs.Unambiguous.{one_formula, one_reading}
 use Rattle.automaton.specs.Alphabet.{bad_alphabet, letter_count}
 use Rattle.automaton.specs.Construction.{CountOf}
@@ -28,15 +28,12 @@ use Rattle.plays.proofs.RoundLaws.{one_round}
 use Rattle.plays.proofs.WinLaws.{won_by, not_won}
 use Rattle.plays.specs.inner.Rank.{Enclosed}
 use Rattle.plays.proofs.EntryLaws.{one_system, one_environment}
-use Rattle.game.specs.declared.answer.Answer.{Answer}
-use Rattle.game.specs.declared.answer.Answer.TheVariants.{Refused}
 use Rattle.game.specs.declared.follow.Position.{Position}
-use Rattle.game.specs.declared.follow.Followed.{Followed}
-use Rattle.game.specs.Answer.{verdict_of}
+use Rattle.game.specs.Answer.{Answer, verdict_of}
 use Rattle.game.specs.Tables.{need_limit, SystemState, EnvironmentState, Tables, Verdict}
 use Rattle.game.specs.Given.{given_refusal, GivenSolved}
 use Rattle.game.specs.Rule.{Buffers, size_refusal, rule_refusal, RuleSolved}
-use Rattle.game.specs.Follower.{FollowedBy}
+use Rattle.game.specs.Follower.{FollowAnswer, FollowedBy}
 use Rattle.game.specs.Agreement.{GivenAgree, RuleAgree}
 use Rattle.game.proofs.IndexLaws.{next_below}
 use Rattle.game.proofs.GivenLaws.{accepted}
@@ -97,7 +94,7 @@ module _ (mode : Mode) (G : Arena) (some_inputs : 0 < G.inputs) (some_outputs : 
 -- ---- the follower
 
 -- two runs of the follower say the same
-pub one_follow : {i o : ℕ} {G : Arena} {σ : List ℕ} {p : Position} {x : ℕ} {r r' : Followed} → FollowedBy i o G σ p x r → FollowedBy i o G σ p x r' → r ≡ r'
+pub one_follow : {i o : ℕ} {G : Arena} {σ : List ℕ} {p : Position} {x : ℕ} {r r' : FollowAnswer} → FollowedBy i o G σ p x r → FollowedBy i o G σ p x r' → r ≡ r'
 one_follow u v = u.answer ∙ sym v.answer
 
 -- ---- the call for a given automaton
@@ -105,26 +102,26 @@ one_follow u v = u.answer ∙ sym v.answer
 module _ {mode : Mode} (i o : ℕ) {start n : ℕ} {transitions accepting : List ℕ} {mask : ℕ} {σ₀ τ₀ σ τ σ' τ' : List ℕ} {r r' : Answer}
     (x : GivenSolved mode i o start (arena i o n transitions accepting mask) σ₀ τ₀ σ τ r) (y : GivenSolved mode i o start
     (arena i o n transitions accepting mask) σ₀ τ₀ σ' τ' r') where
-  abbrev given_first : Refusal
+  abbrev given_first : Option Refusal
   given_first = given_refusal i o start (arena i o n transitions accepting mask) σ₀ τ₀
 
-  given_served : given_first ≡ Nothing → GivenAgree σ τ σ' τ' r r'
+  given_served : given_first ≡ None → GivenAgree σ τ σ' τ' r r'
   given_served z =
       let G = arena i o n transitions accepting mask in
       let u = x.served z in
       let v = y.served z in
       let closed = next_below (accepted i o start n transitions accepting mask σ₀ τ₀ z).valid in
       let w = one_game mode G (pow_pos i) (pow_pos o) closed start σ₀ τ₀ σ τ σ' τ' u.0 v.0 (u.2, u.3) (v.2, v.3) in
-      record { answer = u.1 ∙ ap (verdict_of n) w.0 ∙ sym v.1; system = w.1; environment = w.2 }
+      record { answer = u.1 ∙ ap (λ (k : ℕ). Ok (verdict_of n k)) w.0 ∙ sym v.1; system = w.1; environment = w.2 }
 
-  given_refused : (given_first ≡ Nothing → ⊥) → GivenAgree σ τ σ' τ' r r'
-  given_refused z =
-      let u = x.refused z in
-      let v = y.refused z in
+  given_refused : (z : Refusal) → given_first ≡ Some z → GivenAgree σ τ σ' τ' r r'
+  given_refused z e =
+      let u = x.refused z e in
+      let v = y.refused z e in
       record { answer = u.0 ∙ sym v.0; system = u.1 ∙ sym v.1; environment = u.2 ∙ sym v.2 }
 
   given_agrees : GivenAgree σ τ σ' τ' r r'
-  given_agrees = ⊎_elim given_served (λ z. given_refused (something given_first z)) (refused_or_served given_first)
+  given_agrees = ⊎_elim given_served (λ z. given_refused z.0 z.1) (refused_or_served given_first)
 
 -- two runs of the call for a given automaton agree
 pub one_given : {mode : Mode} (i o : ℕ) {start n : ℕ} {transitions accepting : List ℕ} {mask : ℕ} {σ₀ τ₀ σ τ σ' τ' : List ℕ} {r r' : Answer}
@@ -140,7 +137,7 @@ one_count : (i o : ℕ) (rule condition : List ℕ) (old : Buffers) (ρ κ : Rea
     → CountOf i o rule n → CountOf i o rule m → rule_refusal i o rule condition old ρ κ none n ≡ rule_refusal i o rule condition old ρ κ none m
 unfolding rule_refusal
 one_count i o rule condition old ρ κ none n m r c d =
-    ap (λ (x : Refusal). cond (bad_alphabet i o) Alphabet (cond (too_long rule || too_long condition) TextLength x))
+    ap (λ (x : Option Refusal). cond (bad_alphabet i o) (Some Alphabet) (cond (too_long rule || too_long condition) (Some TextLength) x))
     (one_refusal i o rule (λ k. after_assumption κ none (size_refusal i o old k)) ρ n m r c d)
 
 -- by what two calls on the same texts tell of these, any buffers have one refusal
@@ -168,7 +165,7 @@ module _ {mode : Mode} {i o : ℕ} {rule condition : List ℕ} {old new new' : B
   abbrev Left : Buffers → ℕ → Arena → Type 0
   Left b k G = Played mode 0 old.system old.environment b.system b.environment k G
 
-  module _ (z : x.refusal ≡ Nothing) where
+  module _ (z : x.refusal ≡ None) where
     -- the automaton's two buffers
     same_automaton : (new.transitions ≡ new'.transitions) × (new.accepting ≡ new'.accepting)
     same_automaton =
@@ -200,7 +197,7 @@ module _ {mode : Mode} {i o : ℕ} {rule condition : List ℕ} {old new new' : B
         let closed = automaton_closed s.formula i o x.states new.transitions new.accepting (mask_of s.assumption i) s.automaton in
         let w = one_game mode G (pow_pos i) (pow_pos o) closed 0 _ _ _ _ _ _ u.0 v.0 p q in
         record {
-          answer = u.1 ∙ ap₂ verdict_of (sym m) w.0 ∙ sym v.1;
+          answer = u.1 ∙ ap₂ (λ (n k : ℕ). Ok (verdict_of n k)) (sym m) w.0 ∙ sym v.1;
           transitions = same_automaton.0;
           accepting = same_automaton.1;
           system = w.1;
@@ -208,13 +205,13 @@ module _ {mode : Mode} {i o : ℕ} {rule condition : List ℕ} {old new new' : B
         }
 
   -- a refusal leaves the four buffers as they were
-  rule_refused : (x.refusal ≡ Nothing → ⊥) → RuleAgree new new' r r'
-  rule_refused z =
-      let u = x.refused z in
-      let v = y.refused (λ e. z (same_refusal ∙ e)) in
+  rule_refused : (z : Refusal) → x.refusal ≡ Some z → RuleAgree new new' r r'
+  rule_refused z e =
+      let u = x.refused z e in
+      let v = y.refused z (sym same_refusal ∙ e) in
       let same : new ≡ new' = u.1 ∙ sym v.1 in
       record {
-        answer = u.0 ∙ ap Refused same_refusal ∙ sym v.0;
+        answer = u.0 ∙ sym v.0;
         transitions = ap (λ (b : Buffers). b.transitions) same;
         accepting = ap (λ (b : Buffers). b.accepting) same;
         system = ap (λ (b : Buffers). b.system) same;
@@ -222,7 +219,7 @@ module _ {mode : Mode} {i o : ℕ} {rule condition : List ℕ} {old new new' : B
       }
 
   rule_agrees : RuleAgree new new' r r'
-  rule_agrees = ⊎_elim rule_served (λ n. rule_refused (something x.refusal n)) (refused_or_served x.refusal)
+  rule_agrees = ⊎_elim rule_served (λ n. rule_refused n.0 n.1) (refused_or_served x.refusal)
 
 -- two runs of the rule call agree
 pub one_rule : {mode : Mode} {i o : ℕ} {rule condition : List ℕ} {old new new' : Buffers} {r r' : Answer}

@@ -6,7 +6,7 @@ use Rattle.plays.specs.Arena.{Arena, holds}
 use Rattle.plays.specs.inner.Rank.{Forces, Falls, Ranked}
 use Rattle.plays.specs.inner.Beaten.{Beaten, over, Outplayed, spent}
 use Rattle.plays.specs.inner.Exact.{ExactRounds, ExactDistances, ExactNeeds, ExactCounts}
-use Rattle.game.specs.inner.Game.{Valid}
+use Rattle.game.specs.inner.Valid.{Valid}
 use Rattle.game.specs.inner.Serving.{ranked_below}
 use Rattle.game.specs.inner.Rounds.{Unranked, Favorable, Grows, Attraction, Promoted, Found}
 use Rattle.plays.proofs.CaseLaws.{zero_or, below_or}

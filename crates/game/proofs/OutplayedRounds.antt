@@ -6,7 +6,7 @@ use Rattle.game.specs.inner.Limits.{rank_limit}
 use Rattle.plays.specs.Arena.{Arena, next, goal, holds}
 use Rattle.plays.specs.inner.Rank.{Safe, Forces}
 use Rattle.plays.specs.inner.Beaten.{unspent, Outplayed, answered}
-use Rattle.game.specs.inner.Game.{Valid}
+use Rattle.game.specs.inner.Valid.{Valid}
 use Rattle.game.specs.inner.Serving.{ranked_below}
 use Rattle.game.specs.inner.Rounds.{Favorable, Attraction}
 use Rattle.reader.proofs.BoolLaws.{clash}

@@ -1,9 +1,9 @@
 -- Laws of the passes that give inner ranks: before the first, one more state, after each, and after the last.
 -- Assumes nothing.
-use Rattle.std.proofs.Common.{◌≡◌, ℕ, ◌+◌, ◌<◌, ◌≤◌, Bool, true, false, not, List, length, get_or, set, sym, refl, ap, ◌∙◌, subst, arith, get_or-set_other, get_or-set_same}
+use Rattle.std.proofs.Common.{◌≡◌, ℕ, ◌+◌, ◌<◌, ◌≤◌, Bool, true, false, not, List, length, get_or, set, sym, ap, ◌∙◌, subst, arith, get_or-set_other, get_or-set_same}
 use Rattle.game.specs.inner.Limits.{rank_limit}
 use Rattle.plays.specs.Arena.{Arena}
-use Rattle.game.specs.inner.Game.{Valid}
+use Rattle.game.specs.inner.Valid.{Valid}
 use Rattle.game.specs.inner.Serving.{ranked_below}
 use Rattle.game.specs.inner.Rounds.{Unranked, Attracts, Keeps, InnerRanks, Stayed, Passed, Attraction}
 use Rattle.plays.proofs.CaseLaws.{zero_or, same_or}
@@ -26,19 +26,6 @@ no_passes fair G outer inner s p l z pos lt up = absurd (let q : ⊥ = omega ari
 
 wider : {fair : Bool} {G : Arena} {outer inner : List ℕ} {k : ℕ} (n : ℕ) → k ≤ n → InnerRanks fair G outer inner k → InnerRanks fair G outer inner n
 wider n le h = record { apart = h.apart; within = h.within; below = λ t. omega (arith, h.below t); forced = h.forced }
-
--- a pass before its first state
-pub pass_starts : {fair : Bool} {G : Arena} {outer inner : List ℕ} {p : ℕ} → InnerRanks fair G outer inner p → Stayed fair G outer inner p
-    → Passed fair G outer inner inner p 0 false
-pass_starts {p = p} h stayed =
-    record {
-      ranks = wider (p + 1) (omega arith) h;
-      stayed = stayed;
-      keeps = λ s l. absurd (let z : ⊥ = omega arith in z);
-      extends = λ t l. refl;
-      more = λ e. absurd (mathlib.Core.Bool.false≢true e);
-      none = λ e. refl;
-    }
 
 -- one more state of a pass
 module _ {fair : Bool} {G : Arena} {outer old inner : List ℕ} {p k : ℕ} {gave : Bool} (so_far : Passed fair G outer old inner p k gave) where
@@ -149,11 +136,6 @@ module _ {fair : Bool} {G : Arena} {outer old inner : List ℕ} {p k : ℕ} {gav
           );
           none = λ e. absurd (mathlib.Core.Bool.true≢false e);
         }
-
--- the same pass, by another name for the number of states passed
-pub pass_over : {fair : Bool} {G : Arena} {outer old inner : List ℕ} {p k n : ℕ} {gave : Bool} → k ≡ n
-    → Passed fair G outer old inner p k gave → Passed fair G outer old inner p n gave
-pass_over {fair} {G} {outer} {old} {inner} {p} {gave = gave} e h = subst (λ (i : ℕ). Passed fair G outer old inner p i gave) e h
 
 -- after a pass over all states: those that it left out have no rank yet, and are kept from the ranks below it
 pub pass_stayed : {fair : Bool} {G : Arena} {outer old inner : List ℕ} {p : ℕ} {gave : Bool} → Passed fair G outer old inner p G.states gave

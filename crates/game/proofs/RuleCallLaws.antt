@@ -1,73 +1,62 @@
 -- The promise of the rule call (specs/Rule.antt), from its tests, the construction and the game.
 -- Assumes nothing.
-use Rattle.std.proofs.Common.{◌≡◌, ℕ, ◌*◌, ◌^◌, ◌<◌, ◌≤◌, Bool, true, false, cond, ◌||◌, ltb, List, length, sym, refl, ap, ◌∙◌, subst, ap₂, ⊎_elim, arith, pow_pos, ltb-false}
+use Rattle.std.proofs.Common.{◌≡◌, ℕ, ◌*◌, ◌^◌, ◌<◌, ◌≤◌, Bool, true, false, cond, ◌||◌, ltb, List, length, sym, refl, ap, ◌∙◌, subst, ap₂, arith, pow_pos, ltb-false}
+use Rattle.std.specs.Prelude.{Option, Some, None, Result, Ok, Err}
 use Rattle.reader.specs.declared.refusal.Refusal.{Refusal}
-use Rattle.reader.specs.declared.refusal.Refusal.TheVariants.{Nothing, Buffer, StateCount}
-use Rattle.reader.specs.Refusal.{is_nothing}
+use Rattle.reader.specs.declared.refusal.Refusal.TheVariants.{Buffer, StateCount}
 use Rattle.reader.proofs.BoolLaws.{or_left, or_right, or_true, or_false}
-use Rattle.reader.proofs.RefusalLaws.{differs, something, refused_or_served}
 use Rattle.reader.proofs.Unambiguous.{one_reading}
-use Rattle.automaton.specs.declared.construct.Construction.{Construction}
-use Rattle.automaton.specs.declared.construct.Construction.TheVariants.{Built, Refused as Unbuilt}
 use Rattle.automaton.specs.Limits.{state_limit}
 use Rattle.automaton.specs.Alphabet.{letter_count}
 use Rattle.automaton.specs.Condition.{mask_of}
 use Rattle.automaton.specs.Construction.{short_automaton, count_refusal, construct_refusal, construction_of, ConstructionServed, Constructed}
 use Rattle.automaton.proofs.ReadLaws.{count_of}
-use Rattle.game.specs.declared.answer.Answer.TheVariants.{Refused}
 use Rattle.game.specs.Answer.{verdict_of}
 use Rattle.plays.specs.declared.mode.Mode.{Mode}
 use Rattle.plays.specs.Arena.{arena}
-use Rattle.game.specs.inner.Game.{Valid}
+use Rattle.game.specs.inner.Valid.{Valid}
 use Rattle.game.specs.Tables.{Tables, Verdict}
 use Rattle.game.specs.Rule.{Buffers, buffers, short_buffers, size_refusal, rule_refusal, RuleSolved}
-use Rattle.game.specs.inner.RuleChecks.{TestsPassed, RuleChecked}
-use Rattle.game.proofs.AnswerLaws.{verdict_number, verdict_place}
+use Rattle.game.specs.inner.RuleChecks.{RuleRefused, TestsPassed}
 use Rattle.game.proofs.RuleLaws.{some_state, automaton_valid, can_keep, cannot_keep, round_keep}
 
 -- refused before the states are counted
-pub refused_early : (mode : Mode) (i o : ℕ) (rule condition : List ℕ) (old : Buffers) (x : Refusal) (mask : ℕ) → (x ≡ Nothing → ⊥)
-    → RuleChecked i o rule condition x mask → RuleSolved mode i o rule condition old old (Refused x)
-refused_early mode i o rule condition old x mask ne c =
-    let n = count_of i o rule c.reading c.read in
+pub refused_early : (mode : Mode) (i o : ℕ) (rule condition : List ℕ) (old : Buffers) (x : Refusal) → RuleRefused i o rule condition x
+    → RuleSolved mode i o rule condition old old (Err x)
+refused_early mode i o rule condition old x c =
+    let t = c.texts in
+    let n = count_of i o rule t.reading t.read in
     record {
-      reading = c.reading;
-      read = c.read;
-      condition_reading = c.condition_reading;
-      condition_read = c.condition_read;
-      none = c.none;
-      none_satisfies = c.none_satisfies;
+      reading = t.reading;
+      read = t.read;
+      condition_reading = t.condition_reading;
+      condition_read = t.condition_read;
+      none = t.none;
+      none_satisfies = t.none_satisfies;
       states = n.0;
       counted = n.1;
-      refusal = x;
-      first = c.first ne old n.0;
+      refusal = Some x;
+      first = sym (c.first old n.0);
       number = refl;
       place = refl;
-      served = λ z. absurd (ne z);
-      refused = λ _. (refl, refl);
-      over = λ z. absurd (c.not_count z);
+      served = λ e. let z : ◌≡◌ {A = ℕ} 0 1 = cc in absurd (omega arith);
+      refused = λ y e. let h : x ≡ y = cc in (ap Err h, refl);
+      over = λ e. let h : x ≡ StateCount = cc in absurd (c.not_count h);
     }
 
 -- what an answer of the construction says of its refusal
-built_is : (x : Refusal) (m n : ℕ) → Built n ≡ construction_of x m → (x ≡ Nothing) × (n ≡ m)
-built_is x m n e =
-    ⊎_elim
-    (λ z. (z, let f : Built n ≡ Built m = e ∙ ap (λ (y : Refusal). cond (is_nothing y) (Built m) (Unbuilt x)) z in cc))
-    (λ z. absurd (let f : Built n ≡ Unbuilt x = rw z at e in let y : ◌≡◌ {A = ℕ} 0 1 = cc in omega arith))
-    (refused_or_served x)
+built_is : (x : Option Refusal) (m n : ℕ) → Ok n ≡ construction_of x m → (x ≡ None) × (n ≡ m)
+built_is None m n e = (refl, cc)
+built_is (Some x) m n e = let z : ◌≡◌ {A = ℕ} 0 1 = cc in absurd (omega arith)
 
-unbuilt_is : (x y : Refusal) (m : ℕ) → Unbuilt y ≡ construction_of x m → (is_nothing x ≡ false) × (y ≡ x)
-unbuilt_is x y m e =
-    ⊎_elim
-    (λ z. absurd (let f : Unbuilt y ≡ Built m = e ∙ ap (λ (w : Refusal). cond (is_nothing w) (Built m) (Unbuilt x)) z in let q : ◌≡◌ {A = ℕ} 0 1 = cc in
-    omega arith))
-    (λ z. (z, let f : Unbuilt y ≡ Unbuilt x = rw z at e in cc))
-    (refused_or_served x)
+unbuilt_is : (x : Option Refusal) (y : Refusal) (m : ℕ) → Err y ≡ construction_of x m → x ≡ Some y
+unbuilt_is None y m e = let z : ◌≡◌ {A = ℕ} 0 1 = cc in absurd (omega arith)
+unbuilt_is (Some x) y m e = let h : x ≡ y = cc in ap Some h
 
 -- nothing comes after the texts: the states are few enough, and every buffer has room for them
-size_passed : (b c : Bool) (n : ℕ) → cond b StateCount (cond c (Buffer n) Nothing) ≡ Nothing → (b ≡ false) × (c ≡ false)
-size_passed true c n e = absurd (differs StateCount Nothing (λ z. omega arith) e)
-size_passed false true n e = absurd (differs (Buffer n) Nothing (λ z. omega arith) e)
+size_passed : (b c : Bool) (n : ℕ) → cond b (Some StateCount) (cond c (Some (Buffer n)) None) ≡ None → (b ≡ false) × (c ≡ false)
+size_passed true c n e = let z : ◌≡◌ {A = ℕ} 0 1 = cc in absurd (omega arith)
+size_passed false true n e = let z : ◌≡◌ {A = ℕ} 0 1 = cc in absurd (omega arith)
 size_passed false false n e = (refl, refl)
 
 either_way : (a b : Bool) → (a || b) ≡ (b || a)
@@ -75,13 +64,10 @@ either_way true b = sym (or_true b)
 either_way false b = sym (or_false b)
 
 -- the tests were passed, and the construction was asked with the room that the tables have
-module _ (mode : Mode) (i o : ℕ) (rule condition : List ℕ) (old : Buffers) (mask : ℕ) (check : RuleChecked i o rule condition Nothing mask)
+module _ (mode : Mode) (i o : ℕ) (rule condition : List ℕ) (old : Buffers) (mask : ℕ) (pass : TestsPassed i o rule condition mask)
     (room : ℕ) (tables_room : (n : ℕ) → ltb room n ≡ (ltb (length old.system) (n * 2 ^ i) || ltb (length old.environment) n)) (t a : List ℕ) where
-  abbrev pass : TestsPassed i o rule condition check.reading check.condition_reading check.none mask
-  pass = check.passed refl
-
   -- the two refusals agree from here on: they go by the number of states
-  rule_counts : (n : ℕ) → rule_refusal i o rule condition old check.reading check.condition_reading check.none n ≡ size_refusal i o old n
+  rule_counts : (n : ℕ) → rule_refusal i o rule condition old pass.texts.reading pass.texts.condition_reading pass.texts.none n ≡ size_refusal i o old n
   unfolding rule_refusal
   rule_counts n = rw (pass.alphabet, pass.rule_fits, pass.condition_fits, pass.rule_good, pass.condition_good, pass.some)
 
@@ -90,9 +76,9 @@ module _ (mode : Mode) (i o : ℕ) (rule condition : List ℕ) (old : Buffers) (
       let x = short_automaton (letter_count i o) n old.transitions old.accepting in
       ap (λ (b : Bool). b || x) (tables_room n) ∙ either_way (ltb (length old.system) (n * 2 ^ i) || ltb (length old.environment) n) x
 
-  module _ (r : Construction) (made : Constructed i o rule room old.transitions old.accepting t a r) where
-    same_reading : made.reading ≡ check.reading
-    same_reading = one_reading i o true rule made.read check.read
+  module _ (r : Result ℕ Refusal) (made : Constructed i o rule room old.transitions old.accepting t a r) where
+    same_reading : made.reading ≡ pass.texts.reading
+    same_reading = one_reading i o true rule made.read pass.texts.read
 
     construction_counts : made.refusal ≡ count_refusal (letter_count i o) room old.transitions old.accepting made.states
     unfolding construct_refusal
@@ -101,38 +87,38 @@ module _ (mode : Mode) (i o : ℕ) (rule condition : List ℕ) (old : Buffers) (
     counts : made.refusal ≡ size_refusal i o old made.states
     counts =
         let n = made.states in
-        construction_counts ∙ ap (λ (b : Bool). cond (ltb state_limit n) StateCount (cond b (Buffer n) Nothing)) (same_short n)
+        construction_counts ∙ ap (λ (b : Bool). cond (ltb state_limit n) (Some StateCount) (cond b (Some (Buffer n)) None)) (same_short n)
 
-    agrees : made.refusal ≡ rule_refusal i o rule condition old check.reading check.condition_reading check.none made.states
+    agrees : made.refusal ≡ rule_refusal i o rule condition old pass.texts.reading pass.texts.condition_reading pass.texts.none made.states
     agrees = counts ∙ sym (rule_counts made.states)
 
   -- 9 or 3: every buffer is as it was
-  pub refused_late : (y : Refusal) → Constructed i o rule room old.transitions old.accepting t a (Unbuilt y)
-      → RuleSolved mode i o rule condition old (buffers t a old.system old.environment) (Refused y)
+  pub refused_late : (y : Refusal) → Constructed i o rule room old.transitions old.accepting t a (Err y)
+      → RuleSolved mode i o rule condition old (buffers t a old.system old.environment) (Err y)
   refused_late y made =
       let u = unbuilt_is made.refusal y made.states made.answer in
-      let kept = made.untouched (something made.refusal u.0) in
+      let kept = made.untouched (λ e. let f : None ≡ Some y = sym e ∙ u in let z : ◌≡◌ {A = ℕ} 0 1 = cc in omega arith) in
       record {
-        reading = check.reading;
-        read = check.read;
-        condition_reading = check.condition_reading;
-        condition_read = check.condition_read;
-        none = check.none;
-        none_satisfies = check.none_satisfies;
+        reading = pass.texts.reading;
+        read = pass.texts.read;
+        condition_reading = pass.texts.condition_reading;
+        condition_read = pass.texts.condition_read;
+        none = pass.texts.none;
+        none_satisfies = pass.texts.none_satisfies;
         states = made.states;
         counted = made.counted;
-        refusal = y;
-        first = u.1 ∙ agrees (Unbuilt y) made;
+        refusal = Some y;
+        first = sym u ∙ agrees (Err y) made;
         number = refl;
         place = refl;
-        served = λ z. absurd (something made.refusal u.0 (sym u.1 ∙ z));
-        refused = λ _. (refl, ap₂ (λ (l k : List ℕ). buffers l k old.system old.environment) kept.0 kept.1);
-        over = λ z. made.over (sym u.1 ∙ z);
+        served = λ e. let z : ◌≡◌ {A = ℕ} 0 1 = cc in absurd (omega arith);
+        refused = λ x e. let h : y ≡ x = cc in (ap Err h, ap₂ (λ (l k : List ℕ). buffers l k old.system old.environment) kept.0 kept.1);
+        over = λ e. made.over (u ∙ e);
       }
 
   -- a verdict
-  module _ (n : ℕ) (made : Constructed i o rule room old.transitions old.accepting t a (Built n)) where
-    is_served : (made.refusal ≡ Nothing) × (n ≡ made.states)
+  module _ (n : ℕ) (made : Constructed i o rule room old.transitions old.accepting t a (Ok n)) where
+    is_served : (made.refusal ≡ None) × (n ≡ made.states)
     is_served = built_is made.refusal made.states n made.answer
 
     automaton_of : ConstructionServed i o rule n old.transitions old.accepting t a
@@ -141,7 +127,7 @@ module _ (mode : Mode) (i o : ℕ) (rule condition : List ℕ) (old : Buffers) (
     passed : (ltb state_limit n ≡ false) × (short_buffers i o n old ≡ false)
     passed =
         size_passed (ltb state_limit n) (short_buffers i o n old) n
-        (ap (size_refusal i o old) is_served.1 ∙ sym (counts (Built n) made) ∙ is_served.0)
+        (ap (size_refusal i o old) is_served.1 ∙ sym (counts (Ok n) made) ∙ is_served.0)
 
     abbrev automaton_is_short : Bool
     automaton_is_short = short_automaton (letter_count i o) n old.transitions old.accepting
@@ -179,7 +165,7 @@ module _ (mode : Mode) (i o : ℕ) (rule condition : List ℕ) (old : Buffers) (
 
     pub answered : (σ τ : List ℕ) (r : ℕ) → Tables mode (arena i o n t a mask) old.system old.environment σ τ
         → Verdict mode (arena i o n t a mask) σ τ 0 r
-        → RuleSolved mode i o rule condition old (buffers t a σ τ) (verdict_of n r)
+        → RuleSolved mode i o rule condition old (buffers t a σ τ) (Ok (verdict_of n r))
     answered σ τ r tables verdict =
         let s = automaton_of in
         let m = pass.mask_is in
@@ -188,19 +174,19 @@ module _ (mode : Mode) (i o : ℕ) (rule condition : List ℕ) (old : Buffers) (
         let said : Verdict mode (arena i o n t a (mask_of pass.assumption i)) σ τ 0 r =
         subst (λ (k : ℕ). Verdict mode (arena i o n t a k) σ τ 0 r) m verdict in
         record {
-          reading = check.reading;
-          read = check.read;
-          condition_reading = check.condition_reading;
-          condition_read = check.condition_read;
-          none = check.none;
-          none_satisfies = check.none_satisfies;
+          reading = pass.texts.reading;
+          read = pass.texts.read;
+          condition_reading = pass.texts.condition_reading;
+          condition_read = pass.texts.condition_read;
+          none = pass.texts.none;
+          none_satisfies = pass.texts.none_satisfies;
           states = n;
           counted = subst (λ (m : ℕ). Rattle.automaton.specs.Construction.CountOf i o rule m) (sym is_served.1) made.counted;
-          refusal = Nothing;
-          first = sym is_served.0 ∙ agrees (Built n) made
-              ∙ ap (rule_refusal i o rule condition old check.reading check.condition_reading check.none) (sym is_served.1);
-          number = verdict_number n r;
-          place = verdict_place n r;
+          refusal = None;
+          first = sym is_served.0 ∙ agrees (Ok n) made
+              ∙ ap (rule_refusal i o rule condition old pass.texts.reading pass.texts.condition_reading pass.texts.none) (sym is_served.1);
+          number = refl;
+          place = refl;
           served = λ _. (
             r,
             refl,
@@ -220,6 +206,6 @@ module _ (mode : Mode) (i o : ℕ) (rule condition : List ℕ) (old : Buffers) (
               round = round_keep s.formula i o n t a (mask_of pass.assumption i) s.automaton mode r said.round;
             },
           );
-          refused = λ z. absurd (z refl);
-          over = λ z. absurd (differs Nothing StateCount (λ e. omega arith) z);
+          refused = λ x e. let z : ◌≡◌ {A = ℕ} 0 1 = cc in absurd (omega arith);
+          over = λ e. let z : ◌≡◌ {A = ℕ} 0 1 = cc in absurd (omega arith);
         }

@@ -1,25 +1,25 @@
 -- The rule call's tests before the states are counted (specs/inner/RuleChecks.antt), by the test that decided; and the room for states in the tables.
 -- Assumes nothing.
-use Rattle.std.proofs.Common.{◌≡◌, ℕ, ◌*◌, ◌/◌, ◌<◌, min, Bool, true, false, ◌||◌, ltb, ◌↔◌, List, sym, refl, ap, ◌∙◌, ⊎_elim, div-lt_iff_lt-mul, arith, ltb-false, ltb-true, le-ltb, lt-ltb}
-use Rattle.reader.specs.declared.reading.Reading.{Reading}
-use Rattle.reader.specs.declared.reading.Reading.TheVariants.{Good}
+use Rattle.std.proofs.Common.{◌≡◌, ℕ, ◌*◌, ◌/◌, ◌<◌, min, Bool, true, false, ◌||◌, ltb, List, sym, refl, ap, ◌∙◌, subst, ⊎_elim, div-lt_iff_lt-mul, arith, ltb-false, ltb-true, le-ltb, lt-ltb}
+use Rattle.std.specs.Prelude.{Some, None, Result, Ok, Err, MatchResult, IsErrAnd}
+use Rattle.std.proofs.lemmas.Result.{err_from_is_err_and}
+use Rattle.reader.specs.declared.reading.Unreadable.{Unreadable}
+use Rattle.reader.specs.declared.refusal.Subject.TheVariants.{Rule}
 use Rattle.reader.specs.declared.refusal.Refusal.{Refusal}
-use Rattle.reader.specs.declared.refusal.Refusal.TheVariants.{Nothing, Alphabet, TextLength, StateCount}
+use Rattle.reader.specs.declared.refusal.Refusal.TheVariants.{Alphabet, TextLength, StateCount}
 use Rattle.reader.specs.Limits.{too_long}
-use Rattle.reader.specs.Formula.{Formula}
-use Rattle.reader.specs.Marks.{rule_kind, condition_kind}
-use Rattle.reader.specs.Reading.{ReadingOf, IsGood}
-use Rattle.reader.specs.Refusal.{is_nothing, after_rule}
-use Rattle.reader.proofs.BoolLaws.{on, or_true}
-use Rattle.reader.proofs.RefusalLaws.{differs, something, refused_or_served, NotGood, rule_refused}
+use Rattle.reader.specs.Marks.{rule_kind}
+use Rattle.reader.specs.Reading.{Reading, ReadingOf}
+use Rattle.reader.specs.Refusal.{text_refusal}
+use Rattle.reader.proofs.BoolLaws.{on, or_left, or_right}
+use Rattle.reader.proofs.RefusalLaws.{differs, refused_or_served, text_refused}
 use Rattle.reader.proofs.Unambiguous.{some_reading}
-use Rattle.automaton.specs.declared.condition.Assumption.TheVariants.{Mask, Refused}
 use Rattle.automaton.specs.Alphabet.{bad_alphabet}
-use Rattle.automaton.specs.Condition.{Judges, mask_of, NoneSatisfies, after_assumption, condition_refusal, Conditioned}
+use Rattle.automaton.specs.Condition.{mask_of, after_assumption, condition_refusal, Conditioned}
 use Rattle.automaton.proofs.AlphabetLaws.{inputs_fit}
 use Rattle.automaton.proofs.ConditionLaws.{some_none, assumption_refused, assumption_served}
-use Rattle.game.specs.Rule.{Buffers, size_refusal, rule_refusal}
-use Rattle.game.specs.inner.RuleChecks.{RuleChecked}
+use Rattle.game.specs.Rule.{size_refusal, rule_refusal}
+use Rattle.game.specs.inner.RuleChecks.{Read, RuleRefused, RuleChecked}
 
 -- ---- the condition's own call, once its alphabet and length are in range
 
@@ -28,157 +28,104 @@ condition_alphabet : (i o : ℕ) → bad_alphabet i o ≡ false → bad_alphabet
 condition_alphabet i o e = rw (le-ltb 4 i (inputs_fit i o e))
 
 condition_first : (i o : ℕ) (condition : List ℕ) (κ : Reading) (none : Bool) → bad_alphabet i o ≡ false → too_long condition ≡ false
-    → condition_refusal i condition κ none ≡ after_assumption κ none Nothing
+    → condition_refusal i condition κ none ≡ after_assumption κ none None
 unfolding condition_refusal
 condition_first i o condition κ none a b = rw (condition_alphabet i o a, b)
 
--- a refused condition is refused by its reading, or because no input number satisfies it
-record RefusedBy (i : ℕ) (condition : List ℕ) (x : Refusal) : Type 0 where
-  reading : Reading
-  read : ReadingOf i (condition_kind i) condition reading
-  none : Bool
-  none_satisfies : (none ≡ true) ↔ NoneSatisfies i condition
-  is : x ≡ after_assumption reading none Nothing
-  is_refused : is_nothing x ≡ false
-
-by_itself : (i o : ℕ) (condition : List ℕ) (x : Refusal) → bad_alphabet i o ≡ false → too_long condition ≡ false → Conditioned i condition (Refused x)
-    → RefusedBy i condition x
-by_itself i o condition x a b c =
-    let f = c.first ∙ condition_first i o condition c.reading c.none a b in
+-- what a condition's answer says of its refusal
+refusal_is : {i : ℕ} {condition : List ℕ} {x : Refusal} (c : Conditioned i condition (Err x)) → c.refusal ≡ Some x
+refusal_is {i} {condition} {x} c =
     ⊎_elim
-    (λ n. absurd (let s = c.served n in let e : Refused x ≡ Mask (mask_of s.formula i) = s.answer in let z : ◌≡◌ {A = ℕ} 0 1 = cc in omega arith))
-    (λ n.
-    let e : Refused x ≡ Refused c.refusal = c.refused (something c.refusal n) in
-    let d : x ≡ c.refusal = cc in
-    record { reading = c.reading; read = c.read; none = c.none; none_satisfies = c.none_satisfies; is = d ∙ f; is_refused = ap is_nothing d ∙ n })
+    (λ n. absurd (let s = c.served n in let e : Err x ≡ Ok (mask_of s.formula i) = s.answer in let z : ◌≡◌ {A = ℕ} 0 1 = cc in omega arith))
+    (λ n. let e : Err x ≡ Err n.0 = c.refused n.0 n.1 in let d : x ≡ n.0 = cc in n.1 ∙ ap Some (sym d))
     (refused_or_served c.refusal)
 
--- a condition with a mask has a good reading, and some input number satisfies it
-record MaskedBy (i : ℕ) (condition : List ℕ) (mask : ℕ) : Type 0 where
-  reading : Reading
-  read : ReadingOf i (condition_kind i) condition reading
-  none : Bool
-  none_satisfies : (none ≡ true) ↔ NoneSatisfies i condition
-  nodes : ℕ
-  good : reading ≡ Good nodes
-  some : none ≡ false
-  assumption : Formula
-  assumed : IsGood i (condition_kind i) condition assumption
-  mask_is : mask ≡ mask_of assumption i
-  judges : Judges assumption i (mask_of assumption i)
-
-with_mask : (i o : ℕ) (condition : List ℕ) (mask : ℕ) → bad_alphabet i o ≡ false → too_long condition ≡ false → Conditioned i condition (Mask mask)
-    → MaskedBy i condition mask
-with_mask i o condition mask a b c =
-    let f = c.first ∙ condition_first i o condition c.reading c.none a b in
+none_is : {i : ℕ} {condition : List ℕ} {mask : ℕ} (c : Conditioned i condition (Ok mask)) → c.refusal ≡ None
+none_is {i} {condition} {mask} c =
     ⊎_elim
-    (λ n.
-    let s = c.served n in
-    let e : Mask mask ≡ Mask (mask_of s.formula i) = s.answer in
-    let d : mask ≡ mask_of s.formula i = cc in
-    let g = assumption_served c.reading c.none (sym f ∙ n) in
-    record {
-      reading = c.reading;
-      read = c.read;
-      none = c.none;
-      none_satisfies = c.none_satisfies;
-      nodes = g.0.0;
-      good = g.0.1;
-      some = g.1;
-      assumption = s.formula;
-      assumed = s.good;
-      mask_is = d;
-      judges = s.judges;
-    })
-    (λ n. absurd (let e : Mask mask ≡ Refused c.refusal = c.refused (something c.refusal n) in let z : ◌≡◌ {A = ℕ} 0 1 = cc in omega arith))
+    (λ n. n)
+    (λ n. absurd (let e : Ok mask ≡ Err n.0 = c.refused n.0 n.1 in let z : ◌≡◌ {A = ℕ} 0 1 = cc in omega arith))
     (refused_or_served c.refusal)
 
 -- ---- the tests in their order
 
-module _ (i o : ℕ) (rule condition : List ℕ) (mask : ℕ) where
-  refused : (ρ : Reading) → ReadingOf i (rule_kind i o) rule ρ → (κ : Reading) → ReadingOf i (condition_kind i) condition κ
-      → (none : Bool) → (none ≡ true) ↔ NoneSatisfies i condition → (x : Refusal) → is_nothing x ≡ false → (x ≡ StateCount → ⊥)
-      → ((old : Buffers) (n : ℕ) → x ≡ rule_refusal i o rule condition old ρ κ none n) → RuleChecked i o rule condition x mask
-  refused ρ r κ k none t x s d e =
-      record {
-        reading = ρ;
-        read = r;
-        condition_reading = κ;
-        condition_read = k;
-        none = none;
-        none_satisfies = t;
-        first = λ _. e;
-        not_count = d;
-        passed = λ z. absurd (something x s z);
-      }
-
-  unread : (x : Refusal) → is_nothing x ≡ false → (x ≡ StateCount → ⊥)
-      → ((ρ κ : Reading) (none : Bool) (old : Buffers) (n : ℕ) → x ≡ rule_refusal i o rule condition old ρ κ none n) → RuleChecked i o rule condition x mask
-  unread x s d e =
+module _ (i o : ℕ) (rule condition : List ℕ) where
+  some_texts : Read i o rule condition
+  some_texts =
       let r = some_reading i o true rule in
       let k = some_reading i 0 false condition in
       let b = some_none i condition in
-      refused r.0 r.1 k.0 k.1 b.0 b.1 x s d (e r.0 k.0 b.0)
+      record { reading = r.0; read = r.1; condition_reading = k.0; condition_read = k.1; none = b.0; none_satisfies = b.1 }
 
-  pub by_alphabet : bad_alphabet i o ≡ true → RuleChecked i o rule condition Alphabet mask
+  pub by_alphabet : bad_alphabet i o ≡ true → RuleRefused i o rule condition Alphabet
   unfolding rule_refusal
-  by_alphabet a = unread Alphabet refl (differs Alphabet StateCount (λ e. omega arith)) (λ ρ κ none old n. rw a)
+  by_alphabet a = record { texts = some_texts; first = λ old n. rw a; not_count = differs Alphabet StateCount (λ e. omega arith) }
 
   module _ (a : bad_alphabet i o ≡ false) where
-    pub by_rule_length : too_long rule ≡ true → RuleChecked i o rule condition TextLength mask
+    pub by_length : (too_long rule || too_long condition) ≡ true → RuleRefused i o rule condition TextLength
     unfolding rule_refusal
-    by_rule_length b = unread TextLength refl (differs TextLength StateCount (λ e. omega arith)) (λ ρ κ none old n. rw (a, b))
+    by_length b = record { texts = some_texts; first = λ old n. rw (a, b); not_count = differs TextLength StateCount (λ e. omega arith) }
 
-    pub by_condition_length : too_long condition ≡ true → RuleChecked i o rule condition TextLength mask
-    unfolding rule_refusal
-    by_condition_length b = unread TextLength refl (differs TextLength StateCount (λ e. omega arith)) (λ ρ κ none old n. rw (a, b, or_true))
-
-    module _ (b : too_long rule ≡ false) (c : too_long condition ≡ false) where
-      pub by_rule : (ρ : Reading) → ReadingOf i (rule_kind i o) rule ρ → NotGood ρ → (x : Refusal) → x ≡ after_rule ρ Nothing
-          → RuleChecked i o rule condition x mask
+    module _ (b : (too_long rule || too_long condition) ≡ false) where
+      by_rule : (e : Unreadable) → ReadingOf i (rule_kind i o) rule (Err e) → RuleRefused i o rule condition (text_refusal Rule e)
       unfolding rule_refusal
-      by_rule ρ r g x e =
-          let f = rule_refused ρ g in
+      by_rule e r =
           let k = some_reading i 0 false condition in
           let m = some_none i condition in
-          refused ρ r k.0 k.1 m.0 m.1 x (ap is_nothing e ∙ f.is_refused) (λ z. f.not_count (sym e ∙ z))
-          (λ old n. rw (a, b, c) (e ∙ sym (f.first (after_assumption k.0 m.0 (size_refusal i o old n)))))
-
-      pub by_condition : (m : ℕ) → ReadingOf i (rule_kind i o) rule (Good m) → (x : Refusal) → Conditioned i condition (Refused x)
-          → RuleChecked i o rule condition x mask
-      unfolding rule_refusal
-      by_condition m r x v =
-          let w = by_itself i o condition x a c v in
-          let f = assumption_refused w.reading w.none (sym (ap is_nothing w.is) ∙ w.is_refused) in
-          refused (Good m) r w.reading w.read w.none w.none_satisfies x w.is_refused (λ z. f.not_count (sym w.is ∙ z))
-          (λ old n. rw (a, b, c) (w.is ∙ sym (f.first (size_refusal i o old n))))
-
-      pub by_none : (m : ℕ) → ReadingOf i (rule_kind i o) rule (Good m) → Conditioned i condition (Mask mask) → RuleChecked i o rule condition Nothing mask
-      by_none m r v =
-          let w = with_mask i o condition mask a c v in
           record {
-            reading = Good m;
-            read = r;
-            condition_reading = w.reading;
-            condition_read = w.read;
-            none = w.none;
-            none_satisfies = w.none_satisfies;
-            first = λ z. absurd (z refl);
-            not_count = differs Nothing StateCount (λ e. omega arith);
-            passed = λ _. record {
-              alphabet = a;
-              rule_fits = b;
-              condition_fits = c;
-              rule_nodes = m;
-              rule_good = refl;
-              condition_nodes = w.nodes;
-              condition_good = w.good;
-              some = w.some;
-              assumption = w.assumption;
-              assumed = w.assumed;
-              mask_is = w.mask_is;
-              judges = w.judges;
-            };
+            texts = record { reading = Err e; read = r; condition_reading = k.0; condition_read = k.1; none = m.0; none_satisfies = m.1 };
+            first = λ old n. rw (a, b);
+            not_count = (text_refused Rule e).not_count;
+          }
+
+      -- what is answered on the rule's text, with its refusal in the place of why
+      pub by_answer : (ρ : Reading) (r : Result ℕ Refusal) → ReadingOf i (rule_kind i o) rule ρ
+          → MatchResult ρ (λ n. r ≡ Ok n) (λ e. IsErrAnd r (λ x. x ≡ text_refusal Rule e))
+          → ((x : Refusal) → r ≡ Err x → RuleRefused i o rule condition x) × ((m : ℕ) → r ≡ Ok m → ReadingOf i (rule_kind i o) rule (Ok m))
+      by_answer (Ok n) r read e = (
+        λ x f. let g : Ok n ≡ Err x = sym e ∙ f in let z : ◌≡◌ {A = ℕ} 0 1 = cc in absurd (omega arith),
+        λ m f. let g : Ok n ≡ Ok m = sym e ∙ f in let h : n ≡ m = cc in subst (λ (k : ℕ). ReadingOf i (rule_kind i o) rule (Ok k)) h read,
+      )
+      by_answer (Err d) r read e =
+          let p = err_from_is_err_and r e in (
+            λ x f. let g : Err p.0 ≡ Err x = sym p.1 ∙ f in let h : p.0 ≡ x = cc in subst (RuleRefused i o rule condition) (sym p.2 ∙ h) (by_rule d read),
+            λ m f. let g : Err p.0 ≡ Ok m = sym p.1 ∙ f in let z : ◌≡◌ {A = ℕ} 0 1 = cc in absurd (omega arith),
+          )
+
+      short : too_long condition ≡ false
+      short = or_right (too_long rule) (too_long condition) b
+
+      -- a good rule, by the answer on the condition
+      pub by_condition : (m : ℕ) → ReadingOf i (rule_kind i o) rule (Ok m) → (r : Result ℕ Refusal) → Conditioned i condition r → RuleChecked i o rule condition r
+      unfolding rule_refusal
+      by_condition m r (Err x) c =
+          let f : after_assumption c.reading c.none None ≡ Some x = sym (c.first ∙ condition_first i o condition c.reading c.none a short) ∙ refusal_is c in
+          let g = assumption_refused c.reading c.none x f in
+          record {
+            texts = record { reading = Ok m; read = r; condition_reading = c.reading; condition_read = c.read; none = c.none; none_satisfies = c.none_satisfies };
+            first = λ old n. rw (a, b) (g.first (size_refusal i o old n));
+            not_count = g.not_count;
+          }
+      by_condition m r (Ok mask) c =
+          let f : after_assumption c.reading c.none None ≡ None = sym (c.first ∙ condition_first i o condition c.reading c.none a short) ∙ none_is c in
+          let g = assumption_served c.reading c.none f in
+          let s = c.served (none_is c) in
+          let e : Ok mask ≡ Ok (mask_of s.formula i) = s.answer in
+          let d : mask ≡ mask_of s.formula i = cc in
+          record {
+            texts = record { reading = Ok m; read = r; condition_reading = c.reading; condition_read = c.read; none = c.none; none_satisfies = c.none_satisfies };
+            alphabet = a;
+            rule_fits = or_left (too_long rule) (too_long condition) b;
+            condition_fits = short;
+            rule_nodes = m;
+            rule_good = refl;
+            condition_nodes = g.0.0;
+            condition_good = g.0.1;
+            some = g.1;
+            assumption = s.formula;
+            assumed = s.good;
+            mask_is = d;
+            judges = s.judges;
           }
 
 -- ---- the room for states in the two tables

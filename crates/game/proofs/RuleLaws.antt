@@ -23,7 +23,7 @@ use Rattle.plays.specs.Play.{Step, Legal, entered, stands_on, reaches, letters, 
 use Rattle.plays.specs.Strategy.{BySystem, ByEnvironment, SystemWins, EnvironmentWins}
 use Rattle.plays.specs.Way.{SystemWay, system_after, ByWay}
 use Rattle.plays.specs.Round.{Reaching, RoundNumber}
-use Rattle.game.specs.inner.Game.{Valid}
+use Rattle.game.specs.inner.Valid.{Valid}
 use Rattle.game.specs.Rule.{Satisfied, Can, Cannot}
 use Rattle.reader.proofs.BoolLaws.{on, clash}
 use Rattle.plays.proofs.PlayLaws.{take_along, take_letters, reaches_beginning, beginning_reaches}

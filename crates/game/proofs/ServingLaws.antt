@@ -1,10 +1,10 @@
 -- Laws of the test on one step: what it is where the code asks, and what it means for each player.
 -- Assumes nothing.
-use Rattle.std.proofs.Common.{◌≡◌, ℕ, ◌<◌, ◌≤◌, Bool, true, false, cond, ◌||◌, ◌⊎◌, get_or, sym, refl, ⊎_elim, arith, eq-eqb, ne_eqb}
+use Rattle.std.proofs.Common.{◌≡◌, ℕ, ◌<◌, Bool, true, false, cond, not, ◌||◌, ◌⊎◌, get_or, sym, refl, ⊎_elim, eq-eqb, ne_eqb}
 use mathlib.Core.Bool.{beq}
 use Rattle.plays.specs.Arena.{Arena, next, goal, holds}
 use Rattle.plays.specs.inner.Rank.{Forces}
-use Rattle.game.specs.inner.Serving.{serving_at, FirstUnserved}
+use Rattle.game.specs.inner.Serving.{serving_at, IsUnserved, AllServed}
 use Rattle.game.specs.inner.Rounds.{Favorable}
 use Rattle.reader.proofs.BoolLaws.{clash, not_true→, or_left, or_right}
 
@@ -12,6 +12,11 @@ use Rattle.reader.proofs.BoolLaws.{clash, not_true→, or_left, or_right}
 or_first : (a b : Bool) → (a || b) ≡ true → (a ≡ true) ⊎ ((a ≡ false) × (b ≡ true))
 or_first true b e = ◌⊎◌.inl refl
 or_first false b e = ◌⊎◌.inr (refl, e)
+
+-- a value by its opposite
+pub swap_not : (a b : Bool) → a ≡ not b → b ≡ not a
+swap_not a true e = rw e
+swap_not a false e = rw e
 
 -- the test, by the order in which the code asks
 module _ (G : Arena) (won safe : ℕ → Bool) (x t : ℕ) where
@@ -37,18 +42,18 @@ module _ (G : Arena) (won safe : ℕ → Bool) (x t : ℕ) where
   unfolding serving_at
   fails_by e = (or_left (goal G t) (cond (holds G x) (won t) (safe t)) e, or_right (goal G t) (cond (holds G x) (won t) (safe t)) e)
 
--- what the first unserved input says of a state
-module _ {G : Arena} {won safe : ℕ → Bool} {s r : ℕ} (u : FirstUnserved G won safe s r) where
-  pub served_at : G.inputs ≤ r → (x : ℕ) → x < G.inputs
+-- what is known of a state whose inputs are all served, and of an input that is not
+module _ (G : Arena) (won safe : ℕ → Bool) (s : ℕ) where
+  pub served_at : AllServed G won safe s → (x : ℕ) → x < G.inputs
       → (y : ℕ) × (y < G.outputs) × ((goal G (next G s x y) ≡ true)
       ⊎ ((goal G (next G s x y) ≡ false) × (cond (holds G x) (won (next G s x y)) (safe (next G s x y)) ≡ true)))
-  served_at h x l =
-      let w = u.served x (omega arith) in
+  served_at all x l =
+      let w = all x l in
       (w.0, w.1, serves_by G won safe x (next G s x w.0) w.2)
 
-  pub unserved_at : r < G.inputs → (y : ℕ) → y < G.outputs
-      → (goal G (next G s r y) ≡ false) × (cond (holds G r) (won (next G s r y)) (safe (next G s r y)) ≡ false)
-  unserved_at h y l = fails_by G won safe r (next G s r y) (u.unserved h y l)
+  pub unserved_at : (x : ℕ) → IsUnserved G won safe s x → (y : ℕ) → y < G.outputs
+      → (goal G (next G s x y) ≡ false) × (cond (holds G x) (won (next G s x y)) (safe (next G s x y)) ≡ false)
+  unserved_at x u y l = fails_by G won safe x (next G s x y) (u y l)
 
 -- the passes take for safe what is not lost, and nothing is both won and lost
 not_lost : (b : Bool) → beq b false ≡ true → b ≡ false
@@ -73,21 +78,20 @@ looked_unfavorable : (h w l : Bool) → (w ≡ true → l ≡ false) → cond h 
 looked_unfavorable true w l apart e = (e, λ z. absurd (mathlib.Core.Bool.true≢false z))
 looked_unfavorable false w l apart e = let d = is_lost l e in (not_won w l apart d, λ _. d)
 
-module _ {G : Arena} {won lost : ℕ → Bool} {s r : ℕ} (apart : (t : ℕ) → won t ≡ true → lost t ≡ false)
-    (u : FirstUnserved G won (λ t. beq (lost t) false) s r) where
-  pub all_served : G.inputs ≤ r → Forces G true s (Favorable G true won lost)
-  all_served h x l =
-      let w = served_at u h x l in
+module _ (G : Arena) {won lost : ℕ → Bool} (s : ℕ) (apart : (t : ℕ) → won t ≡ true → lost t ≡ false) where
+  pub all_served : AllServed G won (λ t. beq (lost t) false) s → Forces G true s (Favorable G true won lost)
+  all_served all x l =
+      let w = served_at G won (λ t. beq (lost t) false) s all x l in
       let t = next G s x w.0 in
       (w.0, w.1, ⊎_elim (λ g. ◌⊎◌.inl g) (λ d. ◌⊎◌.inr (looked_favorable (holds G x) (won t) (lost t) (apart t) d.1)) w.2)
 
-  pub one_unserved : r < G.inputs → Forces G false s (Favorable G false lost won)
-  one_unserved h = (
-    r,
+  pub one_unserved : (x : ℕ) → x < G.inputs → IsUnserved G won (λ t. beq (lost t) false) s x → Forces G false s (Favorable G false lost won)
+  one_unserved x h u = (
+    x,
     h,
     λ y l.
-        let t = next G s r y in
-        let w = unserved_at u h y l in
-        let d = looked_unfavorable (holds G r) (won t) (lost t) (apart t) w.1 in
-        (w.0, (d.0, λ j. d.1 (not_true→ (holds G r) j))),
+        let t = next G s x y in
+        let w = unserved_at G won (λ t. beq (lost t) false) s x u y l in
+        let d = looked_unfavorable (holds G x) (won t) (lost t) (apart t) w.1 in
+        (w.0, (d.0, λ j. d.1 (not_true→ (holds G x) j))),
   )

@@ -1,14 +1,12 @@
 -- What the solver hands to the tables: fair, where the environment wins the start, and stable where the system does.
 -- Assumes nothing.
-use Rattle.std.proofs.Common.{◌≡◌, ℕ, ◌<◌, ◌≤◌, Bool, true, false, List, get_or, sym, refl, ◌∙◌, subst, ⊎_elim, arith, ne_eqb}
+use Rattle.std.proofs.Common.{◌≡◌, ℕ, ◌<◌, Bool, true, false, List, get_or, sym, refl, ◌∙◌, subst, ⊎_elim, arith, ne_eqb}
 use Rattle.plays.specs.Arena.{Arena}
 use Rattle.plays.specs.inner.Rank.{Ranked, Ranking}
 use Rattle.plays.specs.inner.Beaten.{Beaten}
-use Rattle.plays.specs.inner.Exact.{ExactNeeds}
 use Rattle.game.specs.Tables.{need_limit}
 use Rattle.game.specs.inner.Rounds.{Found}
-use Rattle.game.specs.inner.Needs.{UnrankedBeaten, Narrowed}
-use Rattle.game.specs.inner.Wide.{Wide}
+use Rattle.game.specs.inner.Needs.{UnrankedBeaten, SystemNeeds}
 use Rattle.game.specs.inner.Solution.{Solves}
 use Rattle.plays.proofs.BeatenLaws.{held_beaten}
 
@@ -55,21 +53,6 @@ module _ {fair : Bool} {G : Arena} {start : ℕ} {system environment : List ℕ}
         beaten = λ k h. subst (λ (f : Bool). Beaten f G k start k) (sym e) (found.rounds e start k k hs h);
       }
 
-  -- the environment has a rank at the start: there is no round number
-  pub solves_cannot : (get_or environment start 0 ≡ 0 → ⊥) → Solves fair G start system system environment G.states 0
-  solves_cannot p =
-      record {
-        found = found;
-        near_ranked = found.ranking.of_system;
-        near_won = λ t q. q;
-        near_fair = λ q. refl;
-        near_exact = found.needs;
-        limit = λ _. refl;
-        can = λ q. absurd (let o : ⊥ = omega arith in o);
-        cannot = λ q. omega arith;
-        beaten = λ k h. absurd (let o : ⊥ = omega arith in o);
-      }
-
   module _ (e : fair ≡ false) where
     -- stable: the system is beaten where it has no rank
     lost : UnrankedBeaten G system
@@ -77,23 +60,8 @@ module _ {fair : Bool} {G : Arena} {start : ℕ} {system environment : List ℕ}
 
     -- the environment has no rank at the start: what `narrow` asks for
     pub asks_narrow : get_or environment start 0 ≡ 0
-        → (0 < get_or system start 0) × ExactNeeds G G.states system × ((t : ℕ) → get_or system t 0 ≤ G.states) × UnrankedBeaten G system
-    asks_narrow p = (system_ranked found.ranking start hs p, found.needs e, found.ranking.system_bound, lost)
-
-    module _ {low : List ℕ} {m : ℕ} (n : Narrowed G start system low m) where
-      -- what the answer of `widened` is for
-      pub solves_stable : {near : List ℕ} → Wide G m system low near → Solves fair G start near system environment m m
-      solves_stable {near} w =
-          let p = n.positive in
-          let same = w.extends start n.here in
-          record {
-            found = found;
-            near_ranked = subst (λ (f : Bool). Ranked G true f m near) (sym e) w.exact.ranked;
-            near_won = w.won;
-            near_fair = λ q. absurd (mathlib.Core.Bool.true≢false (sym q ∙ e));
-            near_exact = λ q. w.exact;
-            limit = λ _. sym (limit_can G.states m p);
-            can = λ q. (omega (arith, n.here), omega (arith, n.low start));
-            cannot = λ q. absurd (let o : ⊥ = omega arith in o);
-            beaten = λ k h. subst (λ (f : Bool). Beaten f G k start k) (sym e) (n.beaten k h);
-          }
+        → (0 < get_or system start 0) × SystemNeeds G system
+    asks_narrow p = (
+      system_ranked found.ranking start hs p,
+      record { exact = found.needs e; small = found.ranking.system_bound; unranked_beaten = lost },
+    )

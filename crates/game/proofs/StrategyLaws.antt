@@ -9,7 +9,7 @@ use Rattle.plays.specs.Round.{Reaching, RoundNumber}
 use Rattle.plays.specs.Entry.{Lowest}
 use Rattle.plays.specs.inner.Rank.{mode_of, Ranked, AllowedOutput, AllowedInput}
 use Rattle.game.specs.Tables.{SystemState, EnvironmentState, Tables, Verdict, no_move}
-use Rattle.game.specs.inner.Game.{Valid}
+use Rattle.game.specs.inner.Valid.{Valid}
 use Rattle.game.specs.inner.Bytes.{MixedByte, SystemFilled, EnvironmentFilled}
 use Rattle.game.specs.inner.Solution.{Solves}
 use Rattle.game.proofs.IndexLaws.{row_below}

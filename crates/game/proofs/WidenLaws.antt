@@ -1,18 +1,19 @@
 -- Laws of the needs above the limit: which states may have one, a look at a state, a pass, the needs before the first pass, after one, and after the last.
 -- Assumes nothing.
-use Rattle.std.proofs.Common.{◌≡◌, ℕ, zero, suc, ◌+◌, ◌-◌, ◌<◌, ◌≤◌, Bool, true, false, cond, ltb, leb, ◌⊎◌, List, length, get_or, set, sym, refl, ap, ◌∙◌, subst, ⊎_elim, arith, get_or-set_other, get_or-set_same, ltb-false, ltb-true, leb-false, leb-true}
+use Rattle.std.proofs.Common.{◌≡◌, ℕ, zero, suc, ◌+◌, ◌-◌, ◌<◌, ◌≤◌, max, Bool, true, false, cond, ltb, ◌⊎◌, List, Option, Some, None, length, get_or, set, sym, refl, ap, ◌∙◌, subst, ⊎_elim, arith, get_or-set_other, get_or-set_same, ltb-false, ltb-true}
+use Rattle.std.specs.Option.{is_none}
 use Rattle.plays.specs.Arena.{Arena, next, goal, holds}
 use Rattle.plays.specs.inner.Rank.{Forces, Falls, Ranked}
 use Rattle.plays.specs.inner.Beaten.{Beaten, over, forced}
 use Rattle.plays.specs.inner.Exact.{ExactNeeds}
 use Rattle.game.specs.inner.Limits.{rank_limit}
-use Rattle.game.specs.inner.Game.{Valid}
+use Rattle.game.specs.inner.Valid.{Valid}
 use Rattle.game.specs.inner.Serving.{ranked_below, safe_below, FirstUnserved}
 use Rattle.game.specs.inner.Rounds.{Extends, Grows}
 use Rattle.game.specs.inner.Needs.{Bounds, Shrinks, UnrankedBeaten}
 use Rattle.game.specs.inner.Wide.{Enters, Bars, Opened, Hopeful, Looks, Standing, Looked, Widening, Widened, Wide}
 use Rattle.reader.proofs.BoolLaws.{on}
-use Rattle.plays.proofs.CaseLaws.{zero_or, same_or}
+use Rattle.plays.proofs.CaseLaws.{zero_or, same_or, below_or}
 use Rattle.plays.proofs.BeatenLaws.{beaten_less}
 use Rattle.game.proofs.IndexLaws.{next_below}
 use Rattle.game.proofs.ForcingLaws.{forces_map}
@@ -52,14 +53,15 @@ module _ {G : Arena} (v : Valid G) {m : ℕ} {system needs : List ℕ} {s : ℕ}
   hopeful_has d = record { some = λ e. absurd (mathlib.Core.Bool.false≢true e); none = λ _ z. absurd (d z) }
 
   -- the first input decides that no output serves
-  pub hopeful_by : {r : ℕ} → FirstUnserved G (ranked_below rank_limit system) (safe_below true (m + 1) needs) s r → 0 < get_or system s 0 → get_or needs s 0 ≡ 0
-      → Hopeful G m system needs s (leb G.inputs r)
-  hopeful_by {r} u won none =
+  pub hopeful_by : (r : Option ℕ) → FirstUnserved G (ranked_below rank_limit system) (safe_below true (m + 1) needs) s r → 0 < get_or system s 0 → get_or needs s 0 ≡ 0
+      → Hopeful G m system needs s (is_none r)
+  hopeful_by None u won none = record { some = λ _. (won, none); none = λ e. absurd (mathlib.Core.Bool.true≢false e) }
+  hopeful_by (Some r) u won none =
       record {
         some = λ _. (won, none);
-        none = λ e _ k.
-            let one = leb-false G.inputs r e in
-            input_beaten (λ t. cond (holds G r) (ranked_below rank_limit system t) (safe_below true (m + 1) needs t) ≡ false) k r v hs one (unserved_at u one)
+        none = λ _ _ k.
+            input_beaten (λ t. cond (holds G r) (ranked_below rank_limit system t) (safe_below true (m + 1) needs t) ≡ false) k r v hs u.0
+            (unserved_at G (ranked_below rank_limit system) (safe_below true (m + 1) needs) s r u.1)
             (λ t l w h. un t l (below_none rank_limit system t (rw h at w) (omega (arith, bound t, v.moving.states_fit))) m (k - 1))
             (λ t l w h. b.beaten t m l (omega arith)
             (λ some. omega (arith, not_lower (m + 1) needs t (sym (beq_true (ranked_below (m + 1) needs t)) ∙ rw h at w) some)));
@@ -80,10 +82,6 @@ no_looks m system needs due z =
 
 -- one more state
 module _ {G : Arena} {m : ℕ} {system needs due : List ℕ} {k : ℕ} (so_far : Looks G m system needs due k) where
-  -- the same, by another name for the number of states
-  pub looks_over : {n : ℕ} → k ≡ n → Looks G m system needs due n
-  looks_over e = subst (λ (i : ℕ). Looks G m system needs due i) e so_far
-
   -- that is never due
   pub looks_stays : Hopeful G m system needs k false → Looks G m system needs due (k + 1)
   looks_stays h =
@@ -100,7 +98,10 @@ module _ {G : Arena} {m : ℕ} {system needs due : List ℕ} {k : ℕ} (so_far :
   -- that is due in pass w
   module _ (b : Bounds G m needs) (exact : ExactNeeds G G.states system) (bound : (t : ℕ) → get_or system t 0 ≤ G.states) (limit : m ≤ G.states)
       (hk : k < G.states) (long : k < length due) (h : Hopeful G m system needs k true) {w : ℕ}
-      (larger : (get_or system k 0 ≤ w) × (m + 1 ≤ w) × ((w ≡ get_or system k 0) ⊎ (w ≡ m + 1))) where
+      (is : w ≡ max (get_or system k 0) (m + 1)) where
+    larger : (get_or system k 0 ≤ w) × (m + 1 ≤ w) × ((w ≡ get_or system k 0) ⊎ (w ≡ m + 1))
+    larger = (omega (arith, is), omega (arith, is), below_or (get_or system k 0) (m + 1) (λ l. ◌⊎◌.inr (omega (arith, is))) (λ l. ◌⊎◌.inl (omega (arith, is))))
+
     here_early : (j : ℕ) → j < w → Beaten false G m k j
     here_early j l =
         ⊎_elim
@@ -131,13 +132,10 @@ module _ {G : Arena} {m : ℕ} {system needs due : List ℕ} {k : ℕ} (so_far :
 -- ---- a look at one state
 
 -- the first input that no output serves decides
-pub opens_by : {G : Arena} (m : ℕ) (needs : List ℕ) (p : ℕ) {s r : ℕ} → FirstUnserved G (ranked_below p needs) (safe_below true (m + 1) needs) s r
-    → Opened G m needs p s (leb G.inputs r)
-opens_by {G} m needs p {s} {r} u =
-    record {
-      gains = λ e. all_enter m needs p u (leb-true G.inputs r e);
-      stays = λ e. one_bars m needs p u (leb-false G.inputs r e);
-    }
+pub opens_by : (G : Arena) (m : ℕ) (needs : List ℕ) (p s : ℕ) (r : Option ℕ) → FirstUnserved G (ranked_below p needs) (safe_below true (m + 1) needs) s r
+    → Opened G m needs p s (is_none r)
+opens_by G m needs p s None u = record { gains = λ _. all_enter G m needs p s u; stays = λ e. absurd (mathlib.Core.Bool.true≢false e) }
+opens_by G m needs p s (Some r) u = record { gains = λ e. absurd (mathlib.Core.Bool.false≢true e); stays = λ _. one_bars G m needs p s r u.0 u.1 }
 
 module _ {G : Arena} {m : ℕ} {system needs due : List ℕ} {p : ℕ} (st : Standing G m system needs due p) where
   -- the system is beaten with a budget that is short of a state's need and of its pass
@@ -339,10 +337,6 @@ widen_starts i =
     }
 
 module _ {G : Arena} {m : ℕ} {system old needs due : List ℕ} {p k : ℕ} {going : Bool} (so_far : Widened G m system old needs due p k going) where
-  -- the same pass, by another name for the number of states passed
-  pub widen_over : {n : ℕ} → k ≡ n → Widened G m system old needs due p n going
-  widen_over e = subst (λ (i : ℕ). Widened G m system old needs due p i going) e so_far
-
   -- one more state: the pass goes on if it did, or if the look says so
   module _ {new later : List ℕ} {r : Bool} (look : Looked G m system needs due new later p k r) (w : Bool) (true_by : w ≡ true → (r ≡ true) ⊎ (going ≡ true))
       (false_by : w ≡ false → (r ≡ false) × (going ≡ false)) where

@@ -4,7 +4,7 @@
 -- Assumes nothing.
 use Rattle.std.specs.Prelude.{◌≡◌}
 use Rattle.plays.specs.Strategy.{Table}
-use Rattle.game.specs.declared.answer.Answer.{Answer}
+use Rattle.game.specs.Answer.{Answer}
 use Rattle.game.specs.Rule.{Buffers}
 
 -- two runs of the call for a given automaton

@@ -1,15 +1,13 @@
 -- The call for a given automaton (specification, "Calls" and "Refusals").
--- Its answer is the declared type `Answer`; its order of refusals is 1, 10, 3, 12, 11, 13, 15.
+-- Its order of refusals is 1, 10, 3, 12, 11, 13, 15.
 -- Assumes nothing.
-use Rattle.std.specs.Prelude.{◌≡◌, ℕ, zero, suc, ◌*◌, ◌/◌, ◌^◌, Bool, true, cond, not, ◌&&◌, ◌||◌, length, take, ◌==◌, ◌≢◌, nat_le, nat_lt}
+use Rattle.std.specs.Prelude.{◌≡◌, ℕ, zero, suc, ◌*◌, ◌/◌, ◌^◌, Bool, true, cond, not, ◌&&◌, ◌||◌, length, take, ◌==◌, nat_le, nat_lt, Option, Some, None, Ok, Err}
 use Rattle.reader.specs.declared.refusal.Refusal.{Refusal}
-use Rattle.reader.specs.declared.refusal.Refusal.TheVariants.{Nothing, Alphabet, Buffer, GivenCount, Move, State, Value, Unsatisfiable}
-use Rattle.reader.specs.Refusal.{number_of, place_of}
+use Rattle.reader.specs.declared.refusal.Refusal.TheVariants.{Alphabet, Buffer, GivenCount, Move, State, Value, Unsatisfiable}
+use Rattle.reader.specs.Refusal.{first_number, first_place, answer_number, answer_place}
 use Rattle.automaton.specs.Limits.{state_limit}
 use Rattle.automaton.specs.Alphabet.{bad_alphabet, after_list}
-use Rattle.game.specs.declared.answer.Answer.{Answer}
-use Rattle.game.specs.declared.answer.Answer.TheVariants.{Refused}
-use Rattle.game.specs.Answer.{answer_number, answer_place, verdict_of}
+use Rattle.game.specs.Answer.{Answer, verdict_of}
 use Rattle.plays.specs.declared.mode.Mode.{Mode}
 use Rattle.plays.specs.Arena.{Arena, holds}
 use Rattle.plays.specs.Strategy.{Table}
@@ -49,24 +47,24 @@ abbrev pub none_holds : Arena → Bool
 none_holds G = none_below (holds G) G.inputs
 
 -- the later refusals, once the numbers i, o and n are in range: 3, 12, 11, 13, 15
-unfoldable pub later_refusal : (start : ℕ) (G : Arena) (σ τ : Table) → Refusal
+unfoldable pub later_refusal : (start : ℕ) (G : Arena) (σ τ : Table) → Option Refusal
 later_refusal start G σ τ =
-    cond (short_read G || short_tables G σ τ) (Buffer G.states)
-    (cond (nat_le G.states start) State
+    cond (short_read G || short_tables G σ τ) (Some (Buffer G.states))
+    (cond (nat_le G.states start) (Some State)
     (after_list G.states (take (move_count G) G.transitions) Move
-    (cond (bad_mask G) (Value 0)
-    (cond (none_holds G) Unsatisfiable Nothing))))
+    (cond (bad_mask G) (Some (Value 0))
+    (cond (none_holds G) (Some Unsatisfiable) None))))
 
 -- the refusal that comes first
-unfoldable pub given_refusal : (i o start : ℕ) (G : Arena) (σ τ : Table) → Refusal
-given_refusal i o start G σ τ = cond (bad_alphabet i o) Alphabet (cond (bad_count G.states) GivenCount (later_refusal start G σ τ))
+unfoldable pub given_refusal : (i o start : ℕ) (G : Arena) (σ τ : Table) → Option Refusal
+given_refusal i o start G σ τ = cond (bad_alphabet i o) (Some Alphabet) (cond (bad_count G.states) (Some GivenCount) (later_refusal start G σ τ))
 
 -- the promise with this refusal coming first: the specification's number and place, the answer and both tables on every input
-pub record Solved (refusal : Refusal) (mode : Mode) (start : ℕ) (G : Arena) (σ₀ τ₀ σ τ : Table) (r : Answer) : Type 0 where
-  pub number : answer_number r ≡ number_of refusal
-  pub place : answer_place r ≡ place_of refusal
-  pub refused : (refusal ≢ Nothing) → (r ≡ Refused refusal) × (σ ≡ σ₀) × (τ ≡ τ₀)
-  pub served : refusal ≡ Nothing → (round : ℕ) × (r ≡ verdict_of G.states round) × Tables mode G σ₀ τ₀ σ τ × Verdict mode G σ τ start round
+pub record Solved (refusal : Option Refusal) (mode : Mode) (start : ℕ) (G : Arena) (σ₀ τ₀ σ τ : Table) (r : Answer) : Type 0 where
+  pub number : answer_number r ≡ first_number refusal
+  pub place : answer_place r ≡ first_place refusal
+  pub refused : (x : Refusal) → refusal ≡ Some x → (r ≡ Err x) × (σ ≡ σ₀) × (τ ≡ τ₀)
+  pub served : refusal ≡ None → (round : ℕ) × (r ≡ Ok (verdict_of G.states round)) × Tables mode G σ₀ τ₀ σ τ × Verdict mode G σ τ start round
 
 -- the whole promise
 abbrev pub GivenSolved : (mode : Mode) (i o start : ℕ) (G : Arena) (σ₀ τ₀ σ τ : Table) (r : Answer) → Type 0

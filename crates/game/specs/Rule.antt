@@ -1,16 +1,14 @@
--- The rule call (specification, "Calls"): demands 1, 2 and 3 for a rule. Its answer is the declared type `Answer`; its order of refusals is 1, 2, 4 to 8,
--- 15, 9, 3.
+-- The rule call (specification, "Calls"): demands 1, 2 and 3 for a rule. Its order of refusals is 1, 2, 4 to 8, 15, 9, 3.
 -- Assumes nothing.
-use Rattle.std.specs.Prelude.{◌≡◌, ℕ, ◌*◌, ◌^◌, ◌<◌, ◌≤◌, Bool, true, cond, ◌||◌, ◌↔◌, List, length, take, ◌≢◌, nat_lt}
+use Rattle.std.specs.Prelude.{◌≡◌, ℕ, ◌*◌, ◌^◌, ◌<◌, ◌≤◌, Bool, true, cond, ◌||◌, ◌↔◌, List, length, take, nat_lt, Option, Some, None, Ok, Err}
 use Rattle.reader.specs.Text.{Text}
-use Rattle.reader.specs.declared.reading.Reading.{Reading}
 use Rattle.reader.specs.declared.refusal.Refusal.{Refusal}
-use Rattle.reader.specs.declared.refusal.Refusal.TheVariants.{Nothing, Alphabet, TextLength, Buffer, StateCount}
+use Rattle.reader.specs.declared.refusal.Refusal.TheVariants.{Alphabet, TextLength, Buffer, StateCount}
 use Rattle.reader.specs.Limits.{too_long}
 use Rattle.reader.specs.Formula.{Formula}
 use Rattle.reader.specs.Marks.{rule_kind, condition_kind}
-use Rattle.reader.specs.Reading.{ReadingOf, IsGood}
-use Rattle.reader.specs.Refusal.{number_of, place_of, after_rule}
+use Rattle.reader.specs.Reading.{Reading, ReadingOf, IsGood}
+use Rattle.reader.specs.Refusal.{first_number, first_place, answer_number, answer_place, after_rule}
 use Rattle.automaton.specs.Limits.{state_limit}
 use Rattle.automaton.specs.Alphabet.{bad_alphabet, letter_count}
 use Rattle.automaton.specs.Trace.{Satisfies}
@@ -18,9 +16,7 @@ use Rattle.automaton.specs.Automaton.{Automaton}
 use Rattle.automaton.specs.Buffer.{Kept}
 use Rattle.automaton.specs.Construction.{CountOf, short_automaton, Over}
 use Rattle.automaton.specs.Condition.{mask_of, Judges, NoneSatisfies, after_assumption}
-use Rattle.game.specs.declared.answer.Answer.{Answer}
-use Rattle.game.specs.declared.answer.Answer.TheVariants.{Refused}
-use Rattle.game.specs.Answer.{answer_number, answer_place, verdict_of}
+use Rattle.game.specs.Answer.{Answer, verdict_of}
 use Rattle.plays.specs.declared.mode.Mode.{Mode}
 use Rattle.plays.specs.Arena.{Input, Arena, arena}
 use Rattle.plays.specs.Play.{Step, stands_on, letters, Along}
@@ -63,15 +59,15 @@ short_buffers i o n old =
     || (nat_lt (length old.system) (n * 2 ^ i) || nat_lt (length old.environment) n)
 
 -- the refusals once the states are counted: 9, and 3 by their number
-abbrev pub size_refusal : (i o : ℕ) (old : Buffers) (n : ℕ) → Refusal
-size_refusal i o old n = cond (nat_lt state_limit n) StateCount (cond (short_buffers i o n old) (Buffer n) Nothing)
+abbrev pub size_refusal : (i o : ℕ) (old : Buffers) (n : ℕ) → Option Refusal
+size_refusal i o old n = cond (nat_lt state_limit n) (Some StateCount) (cond (short_buffers i o n old) (Some (Buffer n)) None)
 
 -- the refusal that comes first, for texts with the readings ρ and κ, a condition of which `none` tells whether no input number satisfies it, and a rule
 -- with n states
-unfoldable pub rule_refusal : (i o : ℕ) (rule condition : Text) (old : Buffers) (ρ κ : Reading) (none : Bool) (n : ℕ) → Refusal
+unfoldable pub rule_refusal : (i o : ℕ) (rule condition : Text) (old : Buffers) (ρ κ : Reading) (none : Bool) (n : ℕ) → Option Refusal
 rule_refusal i o rule condition old ρ κ none n =
-    cond (bad_alphabet i o) Alphabet
-    (cond (too_long rule || too_long condition) TextLength
+    cond (bad_alphabet i o) (Some Alphabet)
+    (cond (too_long rule || too_long condition) (Some TextLength)
     (after_rule ρ
     (after_assumption κ none
     (size_refusal i o old n))))
@@ -104,10 +100,10 @@ pub record RuleSolved (mode : Mode) (i o : ℕ) (rule condition : Text) (old new
   pub none_satisfies : (none ≡ true) ↔ NoneSatisfies i condition
   pub states : ℕ
   pub counted : CountOf i o rule states
-  pub refusal : Refusal
+  pub refusal : Option Refusal
   pub first : refusal ≡ rule_refusal i o rule condition old reading condition_reading none states
-  pub number : answer_number r ≡ number_of refusal
-  pub place : answer_place r ≡ place_of refusal
-  pub served : refusal ≡ Nothing → (round : ℕ) × (r ≡ verdict_of states round) × RuleServed mode i o rule condition old new states round
-  pub refused : (refusal ≢ Nothing) → (r ≡ Refused refusal) × (new ≡ old)
-  pub over : refusal ≡ StateCount → Over i o rule
+  pub number : answer_number r ≡ first_number refusal
+  pub place : answer_place r ≡ first_place refusal
+  pub served : refusal ≡ None → (round : ℕ) × (r ≡ Ok (verdict_of states round)) × RuleServed mode i o rule condition old new states round
+  pub refused : (x : Refusal) → refusal ≡ Some x → (r ≡ Err x) × (new ≡ old)
+  pub over : refusal ≡ Some StateCount → Over i o rule

@@ -4,20 +4,22 @@ ghost use Rattle.game.specs.Answer.{verdict_of};
 
 use reader::refusal::Refusal;
 
-// The verdict with the number of states and, on "can", the round number, or a refusal.
-#[derive(Clone, Copy)]
-pub enum Answer {
-    Can(usize, usize),
-    Cannot(usize),
-    Refused(Refusal),
+// The verdict with the number of states and, on "can", the round number.
+#[derive(Clone, Copy, PartialEq, Eq, Debug)]
+pub enum Outcome {
+    Can { states: usize, round: usize },
+    Cannot { states: usize },
 }
 
-// The verdict on n states with a round number.
-pub(crate) fn verdict(n: usize, round: usize) -> Answer
-    ensures { result ≡ verdict_of n round }
+// The verdict, or a refusal.
+pub type Answer = Result<Outcome, Refusal>;
+
+// The verdict on n states with a round number, which is 0 where the system cannot, as `Verdict` in specs/Tables.antt has it.
+pub(crate) fn verdict(states: usize, round: usize) -> Outcome
+    ensures { result ≡ verdict_of states round }
 {
     if round == 0 {
-        return Answer::Cannot(n);
+        return Outcome::Cannot { states };
     }
-    Answer::Can(n, round)
+    Outcome::Can { states, round }
 }

@@ -1,84 +1,90 @@
 // The tests of numbers and buffers that the calls share.
-ghost use Rattle.std.specs.Prelude.{◌≡◌, false, []};
+ghost use Rattle.std.specs.Prelude.{◌≡◌, false};
 ghost use Rattle.automaton.specs.Alphabet.{bad_alphabet};
-ghost use Rattle.plays.specs.inner.Rank.{is_fair};
-ghost use Rattle.game.specs.inner.Game.{arena_at};
-ghost use Rattle.game.specs.inner.Checks.{sizes_of, game_of, InRange};
+ghost use Rattle.plays.specs.Arena.{arena};
+ghost use Rattle.game.specs.inner.Valid.{Valid};
+ghost use Rattle.game.specs.inner.Game.{arena_of};
 ghost use Rattle.game.specs.Given.{bad_count, short_read, short_strategy};
 
-use crate::arena::{Game, Sizes};
-use automaton::alphabet::power;
+use crate::arena::{Automaton, Game};
+use automaton::alphabet::{bad_alphabet, power};
 use automaton::limits::STATE_LIMIT;
 use plays::mode::Mode;
+use reader::refusal::Refusal;
 
 // Whether there are no states, or more than the limit.
-pub(crate) fn bad_count(n: usize) -> bool
+fn bad_count(n: usize) -> bool
     ensures { result ≡ bad_count n }
 {
-    if n == 0 {
-        return true;
-    }
-    STATE_LIMIT < n
+    n == 0 || STATE_LIMIT < n
 }
 
-// Whether the mode is fair.
-fn is_fair(mode: Mode) -> bool
-    ensures { result ≡ is_fair mode }
-{
-    match mode {
-        Mode::Fair => true,
-        Mode::Stable => false,
+impl<'a> Automaton<'a> {
+    ghost use Rattle.game.specs.inner.Checks.{arena_at, Sized};
+
+    // An automaton of n states, i inputs and o outputs, or the refusal of a number that is out of range.
+    pub(crate) fn new(
+        i: usize,
+        o: usize,
+        n: usize,
+        transitions: &'a [u8],
+        accepting: &'a [u8],
+    ) -> Result<Automaton<'a>, Refusal>
+        ensures { Sized i o n transitions.now accepting.now result }
+    {
+        if bad_alphabet(i, o) {
+            return Err(Refusal::Alphabet);
+        }
+        if bad_count(n) {
+            return Err(Refusal::GivenCount);
+        }
+        Ok(Automaton {
+            states: n,
+            inputs: power(i),
+            outputs: power(o),
+            transitions,
+            accepting,
+        })
+    }
+
+    // Whether the transitions or the flags are too short for the states: of a given automaton, where `short_automaton` is about one that is built.
+    pub(crate) fn is_short(&self) -> bool
+        ensures { result ≡ short_read (arena_at self.now 0) }
+    {
+        let letters = self.inputs * self.outputs;
+        self.transitions.len() < self.states * letters || self.accepting.len() < self.states
+    }
+
+    // Whether the system's table is too short for the states.
+    pub(crate) fn short_strategy(&self, system: &[u8]) -> bool
+        ensures { result ≡ short_strategy (arena_at self.now 0) system.now }
+    {
+        system.len() < self.states * self.inputs
     }
 }
 
-// The sizes of n states, i inputs and o outputs.
-pub(crate) fn sizes_of(n: usize, i: usize, o: usize) -> Sizes
-    requires { bad_alphabet i o ≡ false }
-    ensures { result ≡ sizes_of n i o }
+// The game of n states, i inputs and o outputs on an automaton.
+pub(crate) fn game_of<'a>(
+    i: usize,
+    o: usize,
+    mode: Mode,
+    n: usize,
+    transitions: &'a [u8],
+    accepting: &'a [u8],
+    mask: u16,
+) -> Game<'a>
+    requires alphabet { bad_alphabet i o ≡ false }
+    requires valid { Valid (arena i o n transitions.now accepting.now mask) }
+    ensures mode { result.mode ≡ mode }
+    ensures arena { arena_of result ≡ arena i o n transitions.now accepting.now mask }
 {
-    let inputs = power(i);
-    let outputs = power(o);
-    Sizes {
-        states: n,
-        inputs: inputs,
-        outputs: outputs,
-    }
-}
-
-// The game of n states, i inputs and o outputs.
-pub(crate) fn game_of(mode: Mode, mask: u16, n: usize, i: usize, o: usize) -> Game
-    requires { bad_alphabet i o ≡ false }
-    ensures { result ≡ game_of (is_fair mode) mask n i o }
-{
-    let sizes = sizes_of(n, i, o);
-    let fair = is_fair(mode);
     Game {
-        fair: fair,
-        mask: mask,
-        states: sizes.states,
-        inputs: sizes.inputs,
-        outputs: sizes.outputs,
+        mode,
+        mask,
+        states: n,
+        inputs: power(i),
+        outputs: power(o),
+        transitions,
+        accepting,
     }
-}
-
-// Whether the transitions or the flags are too short for the states.
-pub(crate) fn short_read(sizes: Sizes, transitions: &[u8], accepting: &[u8]) -> bool
-    requires { InRange sizes }
-    ensures { result ≡ short_read (arena_at sizes transitions.now accepting.now 0) }
-{
-    let letters = sizes.inputs * sizes.outputs;
-    let count = sizes.states * letters;
-    if transitions.len() < count {
-        return true;
-    }
-    accepting.len() < sizes.states
-}
-
-// Whether the system's table is too short for the states.
-pub(crate) fn short_strategy(sizes: Sizes, system: &[u8]) -> bool
-    requires { InRange sizes }
-    ensures { result ≡ short_strategy (arena_at sizes [] [] 0) system.now }
-{
-    let rows = sizes.states * sizes.inputs;
-    system.len() < rows
 }

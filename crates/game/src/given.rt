@@ -1,28 +1,24 @@
 // The call for a given automaton.
-ghost use Rattle.std.specs.Prelude.{◌≡◌, ◌/◌, ◌^◌, ◌≤◌, not, [], ◌==◌};
+ghost use Rattle.std.specs.Prelude.{◌≡◌, ◌/◌, ◌^◌, ◌≤◌, not, ◌==◌};
 ghost use Rattle.automaton.specs.Limits.{number_limit};
 ghost use Rattle.plays.specs.Arena.{arena};
-ghost use Rattle.game.specs.inner.Game.{arena_at};
-ghost use Rattle.game.specs.inner.Checks.{InRange};
-ghost use Rattle.game.specs.Given.{short_tables, later_refusal, given_refusal, GivenSolved};
+ghost use Rattle.game.specs.inner.Accepted.{AcceptedBy};
+ghost use Rattle.game.specs.inner.Checks.{arena_at};
+ghost use Rattle.game.specs.Given.{short_tables, later_refusal, GivenSolved};
 
 use crate::answer::{Answer, verdict};
-use crate::arena::Sizes;
-use crate::checks::{bad_count, game_of, short_read, short_strategy, sizes_of};
+use crate::arena::{Automaton, Game};
+use crate::checks::game_of;
 use crate::tables::decide;
-use automaton::alphabet::{bad_alphabet, first_over};
+use automaton::alphabet::first_over;
 use plays::mode::Mode;
 use reader::refusal::Refusal;
 
 // Whether a table is too short for the states.
-fn short_tables(sizes: Sizes, system: &[u8], environment: &[u8]) -> bool
-    requires { InRange sizes }
-    ensures { result ≡ short_tables (arena_at sizes [] [] 0) system.now environment.now }
+fn short_tables(automaton: &Automaton, system: &[u8], environment: &[u8]) -> bool
+    ensures { result ≡ short_tables (arena_at automaton.now 0) system.now environment.now }
 {
-    if short_strategy(sizes, system) {
-        return true;
-    }
-    environment.len() < sizes.states
+    automaton.short_strategy(system) || environment.len() < automaton.states
 }
 
 // Whether the mask has a bit from place `inputs` up.
@@ -30,81 +26,61 @@ fn bad_mask(mask: u16, inputs: usize) -> bool
     requires { inputs ≤ number_limit }
     ensures { result ≡ not (mask / 2 ^ inputs == 0) }
 {
-    let wider = mask as u32;
-    wider >> inputs != 0
+    u32::from(mask) >> inputs != 0
 }
 
-// The refusal that comes first once i, o and n are in range.
+// The refusal that comes first once i, o and n are in range, if one comes.
 fn later_refusal(
-    sizes: Sizes,
-    transitions: &[u8],
-    accepting: &[u8],
+    automaton: &Automaton,
     start: usize,
     mask: u16,
     system: &[u8],
     environment: &[u8],
-) -> Refusal
-    requires { InRange sizes }
-    ensures { result ≡ later_refusal start (arena_at sizes transitions.now accepting.now mask)
-        system.now environment.now }
+) -> Option<Refusal>
+    ensures { result ≡ later_refusal start (arena_at automaton.now mask) system.now environment.now }
 {
-    if short_read(sizes, transitions, accepting) {
-        return Refusal::Buffer(sizes.states);
+    let states = automaton.states;
+    if automaton.is_short() || short_tables(automaton, system, environment) {
+        return Some(Refusal::Buffer(states));
     }
-    if short_tables(sizes, system, environment) {
-        return Refusal::Buffer(sizes.states);
-    }
-    let states = sizes.states;
     if states <= start {
-        return Refusal::State;
+        return Some(Refusal::State);
     }
-    let inputs = sizes.inputs;
-    let letters = inputs * sizes.outputs;
+    let inputs = automaton.inputs;
+    let letters = inputs * automaton.outputs;
     let count = states * letters;
-    let k = first_over(&transitions[..count], states);
-    if k < count {
-        return Refusal::Move(k);
+    if let Some(k) = first_over(&automaton.transitions[..count], states) {
+        return Some(Refusal::Move(k));
     }
     if bad_mask(mask, inputs) {
-        return Refusal::Value(0);
+        return Some(Refusal::Value(0));
     }
     if mask == 0 {
-        return Refusal::Unsatisfiable;
+        return Some(Refusal::Unsatisfiable);
     }
-    Refusal::Nothing
+    None
 }
 
-// The refusal that comes first.
-fn given_refusal(
+// The game on a given automaton, or the refusal that comes first. The parameters stand side by side as the C interface hands them in; from here on they are a `Game`.
+fn accepted<'a>(
     i: usize,
     o: usize,
+    mode: Mode,
     n: usize,
-    transitions: &[u8],
-    accepting: &[u8],
+    transitions: &'a [u8],
+    accepting: &'a [u8],
     start: usize,
     mask: u16,
     system: &[u8],
     environment: &[u8],
-) -> Refusal
-    ensures { result ≡ given_refusal i o start (arena i o n transitions.now accepting.now mask)
-        system.now environment.now }
+) -> Result<Game<'a>, Refusal>
+    ensures { AcceptedBy mode i o start (arena i o n transitions.now accepting.now mask) system.now environment.now result }
 {
-    if bad_alphabet(i, o) {
-        return Refusal::Alphabet;
+    let automaton = Automaton::new(i, o, n, transitions, accepting)?;
+    if let Some(refusal) = later_refusal(&automaton, start, mask, system, environment) {
+        return Err(refusal);
     }
-    if bad_count(n) {
-        return Refusal::GivenCount;
-    }
-    let sizes = sizes_of(n, i, o);
-    later_refusal(
-        sizes,
-        transitions,
-        accepting,
-        start,
-        mask,
-        system,
-        environment,
-    )
+    Ok(game_of(i, o, mode, n, transitions, accepting, mask))
 }
 
 // Solves the game on a given automaton: refuses what is out of range, or fills both tables and gives the verdict on the start with its round number.
@@ -123,9 +99,10 @@ pub fn solve_given(
     ensures { GivenSolved mode i o start (arena i o n transitions.now accepting.now mask)
         system.old environment.old system.new environment.new result }
 {
-    let refusal = given_refusal(
+    let game = accepted(
         i,
         o,
+        mode,
         n,
         transitions,
         accepting,
@@ -133,11 +110,7 @@ pub fn solve_given(
         mask,
         system,
         environment,
-    );
-    let Refusal::Nothing = refusal else {
-        return Answer::Refused(refusal);
-    };
-    let g = game_of(mode, mask, n, i, o);
-    let round = decide(g, transitions, accepting, start, system, environment);
-    verdict(n, round)
+    )?;
+    let round = decide(&game, start, system, environment);
+    Ok(verdict(n, round))
 }

@@ -1,110 +1,97 @@
 // The search for an input that no output serves.
 ghost use Rattle.std.specs.Prelude.{◌≡◌, ◌<◌, ◌≤◌};
 ghost use Rattle.automaton.specs.Limits.{state_limit};
-ghost use Rattle.automaton.specs.Bits.{bit};
-ghost use Rattle.game.specs.inner.Game.{arena_of, Valid};
-ghost use Rattle.game.specs.inner.Serving.{ranked_below, safe_below, serving, FirstUnserved};
+ghost use Rattle.game.specs.inner.Game.{arena_of};
+ghost use Rattle.game.specs.inner.Serving.{serving, Served, FirstUnserved};
+ghost use Rattle.game.specs.inner.Targets.{won_by, safe_by};
 
-use crate::arena::{Game, enters, has_condition};
-use crate::limits::Rank;
-use automaton::bytes::wide;
+use crate::arena::Game;
+use crate::below::Below;
 use automaton::limits::{NUMBER_LIMIT, STATE_LIMIT};
 
-// The limits below which a rank counts: for a state that is won, and for one that is safe, which has such a rank or, where `inside` is false, has none.
+// For each state and input the output that served last.
+pub type Witness = [u8; STATE_LIMIT * NUMBER_LIMIT];
+
+// The states that are safe: those with a rank below a limit, or all others.
 #[derive(Clone, Copy)]
-pub struct Limits {
-    pub won: Rank,
-    pub safe: Rank,
-    pub inside: bool,
+pub enum Safe<'a> {
+    Inside(Below<'a>),
+    Outside(Below<'a>),
 }
 
-// Whether state t has a rank below the limit.
-fn ranked_below(limit: Rank, r: &[Rank; STATE_LIMIT], t: usize) -> bool
-    requires { t < state_limit }
-    ensures { result ≡ ranked_below limit r.now t }
-{
-    if limit == 0 {
-        return false;
-    }
-    std::num::wrapping_sub_u16(r[t], 1) < limit - 1
-}
-
-// Whether output y serves input x on state s: it enters a goal, or a state that is won where x has the condition, and one that is safe where it lacks it.
-fn serves(
-    g: Game,
-    transitions: &[u8],
-    accepting: &[u8],
-    won: &[Rank; STATE_LIMIT],
-    safe: &[Rank; STATE_LIMIT],
-    limits: Limits,
-    s: usize,
-    x: usize,
-    y: usize,
-    holds: bool,
-) -> bool
-    requires valid { Valid (arena_of g transitions.now accepting.now) }
-    requires s_lt_states { (s < g.states) × (x < g.inputs) × (y < g.outputs) }
-    requires holds_value { holds ≡ bit g.mask x }
-    ensures { result ≡ serving (arena_of g transitions.now accepting.now)
-        (ranked_below limits.won won.now) (safe_below limits.inside limits.safe safe.now) s x y }
-{
-    let t = enters(g, transitions, s, x, y);
-    if accepting[t] != 0 {
-        return true;
-    }
-    if holds {
-        return ranked_below(limits.won, won, t);
-    }
-    ranked_below(limits.safe, safe, t) == limits.inside
+// The states that a step may enter: those that are won where its input has the condition, and those that are safe where it lacks it.
+#[derive(Clone, Copy)]
+pub struct Targets<'a> {
+    pub won: Below<'a>,
+    pub safe: Safe<'a>,
 }
 
 // The output y, or output 0 where y is none of the n outputs.
 fn wrapped(y: usize, n: usize) -> usize
     ensures { (y < n → result ≡ y) × (n ≤ y → result ≡ 0) }
 {
-    if y < n {
-        return y;
-    }
-    0
+    if y < n { y } else { 0 }
 }
 
-// The first input of state s that no output serves, or the number of inputs. The search for an output begins at the witness, the one that served last.
-pub(crate) fn unserved(
-    g: Game,
-    transitions: &[u8],
-    accepting: &[u8],
-    won: &[Rank; STATE_LIMIT],
-    safe: &[Rank; STATE_LIMIT],
-    limits: Limits,
-    s: usize,
-    witness: &mut [u8; STATE_LIMIT * NUMBER_LIMIT],
-) -> usize
-    requires valid { Valid (arena_of g transitions.now accepting.now) }
-    requires s_lt_states { s < g.states }
-    ensures { FirstUnserved (arena_of g transitions.now accepting.now)
-        (ranked_below limits.won won.now) (safe_below limits.inside limits.safe safe.now) s result }
-{
-    let inputs = g.inputs;
-    let outputs = g.outputs;
-    let mut x: usize = 0;
-    'inputs: while x < inputs {
-        let at = s * inputs + x;
-        let holds = has_condition(g.mask, x);
-        let mut y = wide(witness[at]);
-        let mut tried: usize = 0;
-        loop {
-            if tried == outputs {
-                break 'inputs;
+impl<'a> Targets<'a> {
+    // Whether state t is safe.
+    fn is_safe(&self, t: usize) -> bool
+        requires { t < state_limit }
+        ensures { result ≡ safe_by self.now t }
+    {
+        match self.safe {
+            Safe::Inside(below) => below.contains(t),
+            Safe::Outside(below) => !below.contains(t),
+        }
+    }
+
+    // Whether output y serves input x on state s: it enters a goal or a target.
+    fn serves(&self, g: &Game, s: usize, x: usize, y: usize) -> bool
+        requires { (s < g.now.states) × (x < g.now.inputs) × (y < g.now.outputs) }
+        ensures { result ≡ serving (arena_of g.now) (won_by self.now) (safe_by self.now) s x y }
+    {
+        let t = g.enters(s, x, y);
+        if g.accepting[t] != 0 {
+            return true;
+        }
+        if g.has_condition(x) {
+            return self.won.contains(t);
+        }
+        self.is_safe(t)
+    }
+
+    // An output that serves input x on state s, if there is one. The search begins at the output `first` and goes around, counted beside the `for`: two loops would
+    // be two calls of `serves`, slower than one (docs/PROVING.md, "Speed"), and a chain of two ranges, both cut at the number of outputs, would be no plainer.
+    fn serving_output(&self, g: &Game, s: usize, x: usize, first: usize) -> Option<usize>
+        requires { (s < g.now.states) × (x < g.now.inputs) }
+        ensures { Served (arena_of g.now) (won_by self.now) (safe_by self.now) s x result }
+    {
+        let mut y = first;
+        for tried in 0..g.outputs {
+            y = wrapped(y, g.outputs);
+            if self.serves(g, s, x, y) {
+                return Some(y);
             }
-            y = wrapped(y, outputs);
-            if serves(g, transitions, accepting, won, safe, limits, s, x, y, holds) {
-                break;
-            }
-            tried += 1;
             y += 1;
         }
-        witness[at] = y as u8;
-        x += 1;
+        None
     }
-    x
+
+    // The first input of state s that no output serves, if there is one. The search for an output begins at the witness, the one that served last.
+    pub(crate) fn unserved(&self, g: &Game, s: usize, witness: &mut Witness) -> Option<usize>
+        requires { s < g.now.states }
+        ensures { FirstUnserved (arena_of g.now) (won_by self.now) (safe_by self.now) s result }
+    {
+        // copies, whose fields the loops keep in registers
+        let g = *g;
+        let targets = *self;
+        for x in 0..g.inputs {
+            let at = s * g.inputs + x;
+            let Some(y) = targets.serving_output(&g, s, x, usize::from(witness[at])) else {
+                return Some(x);
+            };
+            witness[at] = y as u8;
+        }
+        None
+    }
 }

@@ -1,106 +1,72 @@
 // What the tables are filled by: the ranks of both players, and the round number of the start.
-ghost use Rattle.std.specs.Prelude.{◌≡◌, ◌<◌, false};
-ghost use Rattle.game.specs.inner.Game.{arena_of, Valid};
+ghost use Rattle.std.specs.Prelude.{◌<◌};
+ghost use Rattle.plays.specs.inner.Rank.{is_fair};
+ghost use Rattle.game.specs.inner.Game.{arena_of};
 ghost use Rattle.game.specs.inner.Rounds.{Found};
 ghost use Rattle.game.specs.inner.Solution.{Solves};
 
 use crate::arena::Game;
-use crate::limits::Rank;
+use crate::limits::{Rank, Ranks};
 use crate::needs::narrow;
-use crate::rounds::{Ranks, rounds};
-use crate::wide::widened;
+use crate::rounds::{PlayerRanks, rounds};
+use crate::search::Witness;
 use automaton::limits::{NUMBER_LIMIT, STATE_LIMIT};
 
 // What the solver finds: the ranks of both players, the ranks by which the system's table goes first with their limit, which is read when stable alone, and the
-// round number, 0 where the system cannot.
+// round number, 0 where the system cannot, as `Verdict` in specs/Tables.antt has it.
 #[derive(Clone, Copy)]
 pub struct Solution {
-    pub near: [Rank; STATE_LIMIT],
-    pub system: [Rank; STATE_LIMIT],
-    pub environment: [Rank; STATE_LIMIT],
+    pub players: PlayerRanks,
+    pub near: Ranks,
     pub limit: Rank,
     pub round: Rank,
 }
 
-// When stable: the needs with the least limit that does for the start, and the needs with n where the environment wins the start.
-fn numbered_stable(
-    g: Game,
-    transitions: &[u8],
-    accepting: &[u8],
-    start: usize,
-    ranks: Ranks,
-    witness: &mut [u8; STATE_LIMIT * NUMBER_LIMIT],
-) -> Solution
-    requires valid { Valid (arena_of g transitions.now accepting.now) }
-    requires start_lt_states { start < g.states }
-    requires found { Found g.fair (arena_of g transitions.now accepting.now) ranks.system ranks.environment }
-    requires fair_value { g.fair ≡ false }
-    ensures { Solves g.fair (arena_of g transitions.now accepting.now) start
-        result.near result.system result.environment result.limit result.round }
+// The round number of the start, and the ranks by which the system's table keeps it. When fair both are the system's ranks; when stable they are the
+// needs with the least limit that does for the start, or with n where the environment wins the start.
+fn numbered(g: &Game, start: usize, players: PlayerRanks, witness: &mut Witness) -> Solution
+    requires start_lt_states { start < g.now.states }
+    requires found { Found (is_fair g.now.mode) (arena_of g.now) players.system players.environment }
+    ensures { Solves (is_fair g.now.mode) (arena_of g.now) start
+        result.near result.players.system result.players.environment result.limit result.round }
 {
-    let system = ranks.system;
-    let environment = ranks.environment;
-    let n = g.states as Rank;
-    if environment[start] != 0 {
+    let system = players.system;
+    if g.is_fair() {
+        let round = system[start];
         return Solution {
+            players,
             near: system,
-            system: system,
-            environment: environment,
-            limit: n,
+            limit: round,
+            round,
+        };
+    }
+    if players.environment[start] != 0 {
+        return Solution {
+            players,
+            near: system,
+            limit: g.states as Rank,
             round: 0,
         };
     }
-    let needs = narrow(g, transitions, accepting, start, &system, witness);
-    let low = needs.ranks;
+    let mut needs = narrow(g, start, &system, witness);
+    needs.widen(g, &system, witness);
+    let near = needs.ranks;
     let limit = needs.limit;
-    let near = widened(g, transitions, accepting, limit, &system, &low, witness);
     Solution {
-        near: near,
-        system: system,
-        environment: environment,
-        limit: limit,
+        players,
+        near,
+        limit,
         round: limit,
     }
 }
 
-// The round number of the start, and the ranks by which the system's table keeps it. When fair both are the system's ranks.
-fn numbered(
-    g: Game,
-    transitions: &[u8],
-    accepting: &[u8],
-    start: usize,
-    ranks: Ranks,
-    witness: &mut [u8; STATE_LIMIT * NUMBER_LIMIT],
-) -> Solution
-    requires valid { Valid (arena_of g transitions.now accepting.now) }
-    requires start_lt_states { start < g.states }
-    requires found { Found g.fair (arena_of g transitions.now accepting.now) ranks.system ranks.environment }
-    ensures { Solves g.fair (arena_of g transitions.now accepting.now) start
-        result.near result.system result.environment result.limit result.round }
-{
-    if g.fair {
-        let system = ranks.system;
-        let environment = ranks.environment;
-        let round = system[start];
-        return Solution {
-            near: system,
-            system: system,
-            environment: environment,
-            limit: round,
-            round: round,
-        };
-    }
-    numbered_stable(g, transitions, accepting, start, ranks, witness)
-}
-
 // Solves the game from the start. The witness of a state and an input is the output that served it last; at first, output 0.
-pub(crate) fn solve(g: Game, transitions: &[u8], accepting: &[u8], start: usize) -> Solution
-    requires valid { Valid (arena_of g transitions.now accepting.now) }
-    requires start_lt_states { start < g.states }
-    ensures { Solves g.fair (arena_of g transitions.now accepting.now) start
-        result.near result.system result.environment result.limit result.round }
+pub(crate) fn solve(g: &Game, start: usize) -> Solution
+    requires start_lt_states { start < g.now.states }
+    ensures { Solves (is_fair g.now.mode) (arena_of g.now) start
+        result.near result.players.system result.players.environment result.limit result.round }
 {
-    let mut witness: [u8; STATE_LIMIT * NUMBER_LIMIT] = [0; STATE_LIMIT * NUMBER_LIMIT];
-    let ranks = rounds(g, transitions, accepting, &mut witness);
-    numbered(g, transitions, accepting, start, ranks, &mut witness)
+    let mut witness: Witness = [0; STATE_LIMIT * NUMBER_LIMIT];
+    let players = rounds(g, &mut witness);
+    numbered(g, start, players, &mut witness)
 }

@@ -1,7 +1,7 @@
 -- What the program prints has at most `output_size` bytes, so that an output of that size holds the whole of it.
 -- Assumes nothing.
 use Prim.Native.Nat.{ℕ, zero, suc, ◌^◌, ◌≤◌, ◌<◌}
-use mathlib.Core.Path.{◌≡◌, sym, ap, subst, ◌∙◌}
+use mathlib.Core.Path.{◌≡◌, sym, subst, ◌∙◌}
 use mathlib.Core.Logic.{⊎_elim}
 use mathlib.Core.List.{List}
 use native.Mathlib.Nat.{min-eq_left}
@@ -12,22 +12,21 @@ use lib.Pow.{pow_mono, pow_pos}
 use lib.Seq.{take_all, take-append_seam}
 use borrow.Author.Tests.{ltb-false}
 use Rattle.plays.specs.declared.mode.Mode.{Mode}
-use Rattle.reader.specs.declared.reading.Reading.{Reading}
-use Rattle.reader.specs.declared.reading.Reading.TheVariants.{Bad}
+use Rattle.std.specs.Prelude.{Option, None, Ok, Err}
+use Rattle.reader.specs.declared.reading.Unreadable.TheVariants.{Bad}
 use Rattle.reader.specs.declared.refusal.Refusal.{Refusal}
-use Rattle.reader.specs.declared.refusal.Refusal.TheVariants.{Nothing, Alphabet, TextLength, Buffer, RuleText, RuleNodes, RuleOperators}
+use Rattle.reader.specs.declared.refusal.Refusal.TheVariants.{Alphabet, TextLength, Buffer, RuleText, RuleNodes, RuleOperators}
 use Rattle.reader.specs.declared.refusal.Refusal.TheVariants.{ConditionText, ConditionNodes, StateCount, GivenCount, Move, State, Value, Unsatisfiable}
 use Rattle.reader.specs.declared.marks.Kind.{Kind}
 use Rattle.reader.specs.Limits.{text_limit}
-use Rattle.reader.specs.Reading.{ReadingOf}
-use Rattle.reader.specs.Refusal.{number_of, place_of}
+use Rattle.reader.specs.Reading.{Reading, ReadingOf}
+use Rattle.reader.specs.Refusal.{number_of, place_of, first_place}
 use Rattle.reader.proofs.BoolLaws.{or_left, or_right}
 use Rattle.automaton.specs.Limits.{number_limit}
 use Rattle.automaton.specs.Condition.{mask_of}
 use Rattle.plays.specs.Arena.{arena}
 use Rattle.plays.proofs.RoundLaws.{round_bound}
-use Rattle.game.specs.declared.answer.Answer.{Answer}
-use Rattle.game.specs.Answer.{verdict_of}
+use Rattle.game.specs.Answer.{Answer, verdict_of}
 use Rattle.game.specs.Rule.{Buffers, RuleServed, RuleSolved}
 use Rattle.game.proofs.AnswerLaws.{verdict_can}
 use Rattle.game.proofs.FirstRefusal.{Early, first_has, Served, first_served}
@@ -39,7 +38,6 @@ use Rattle.listing.proofs.LengthLaws.{system_length, environment_length, line_le
 use Rattle.listing.proofs.PromiseLaws.{served_or_refused}
 
 number_small : (x : Refusal) → number_of x ≤ 15
-number_small Nothing = omega arith
 number_small Alphabet = omega arith
 number_small TextLength = omega arith
 number_small (Buffer n) = omega arith
@@ -56,10 +54,10 @@ number_small (Value k) = omega arith
 number_small Unsatisfiable = omega arith
 
 -- the place of a bad text
-place_within : (i : ℕ) (kind : ℕ → Kind) (text : List ℕ) (ρ : Reading) → ReadingOf i kind text ρ → (k : ℕ) → ρ ≡ Bad k → k ≤ text_limit
+place_within : (i : ℕ) (kind : ℕ → Kind) (text : List ℕ) (ρ : Reading) → ReadingOf i kind text ρ → (k : ℕ) → ρ ≡ Err (Bad k) → k ≤ text_limit
 unfolding ReadingOf
 place_within i kind text ρ h k e =
-    let p : ReadingOf i kind text (Bad k) = subst (λ (x : Reading). ReadingOf i kind text x) e h in
+    let p : ReadingOf i kind text (Err (Bad k)) = subst (λ (x : Reading). ReadingOf i kind text x) e h in
     omega (arith, p.0, p.1.within)
 
 module _ {mode : Mode} {i o : ℕ} {rule condition : List ℕ} {old new : Buffers} {r : Answer} (m : RuleSolved mode i o rule condition old new r) where
@@ -73,15 +71,15 @@ module _ {mode : Mode} {i o : ℕ} {rule condition : List ℕ} {old new : Buffer
   early_place x condition_nodes = omega arith
   early_place x unsatisfiable = omega arith
 
-  refusal_place : place_of m.refusal ≤ text_limit
+  refusal_place : first_place m.refusal ≤ text_limit
   refusal_place =
-      subst (λ (x : Refusal). place_of x ≤ text_limit) (sym m.first)
-      (first_has (λ x. place_of x ≤ text_limit) i o rule condition old m.states m.reading m.condition_reading m.none
+      subst (λ (x : Option Refusal). first_place x ≤ text_limit) (sym m.first)
+      (first_has (λ x. first_place x ≤ text_limit) i o rule condition old m.states m.reading m.condition_reading m.none
       record { before = early_place; count = λ _. omega arith; buffer = λ _ _ _. omega arith; nothing = λ _ _ _ _. omega arith })
 
-  module _ (z : number_of m.refusal ≡ 0) where
+  module _ (z : m.refusal ≡ None) where
     passed : Served i o old m.none m.states
-    passed = first_served i o rule condition old m.reading m.condition_reading m.none m.states (ap number_of (sym m.first) ∙ z)
+    passed = first_served i o rule condition old m.reading m.condition_reading m.none m.states (sym m.first ∙ z)
 
     few_inputs : 2 ^ i ≤ number_limit
     few_inputs = pow_mono {j = 4} (ltb-false 4 i (or_left (ltb 4 i) (ltb 4 o) passed.0))
@@ -109,7 +107,7 @@ module _ {mode : Mode} {i o : ℕ} {rule condition : List ℕ} {old new : Buffer
         (λ w. environment_length (2 ^ i) p new.system new.environment s (let b = w.byte in omega arith))
         (v.tables.won s h))
 
-    served_length : (k : ℕ) → RuleServed mode i o rule condition old new m.states k → length (listing i new (verdict_of m.states k)) ≤ output_size
+    served_length : (k : ℕ) → RuleServed mode i o rule condition old new m.states k → length (listing i new (Ok (verdict_of m.states k))) ≤ output_size
     served_length zero v =
         verdict_length (2 ^ i) new.accepting new.system new.environment cannot_word m.states 0 (omega arith) passed.2 (omega arith)
         (served_line v)
@@ -123,10 +121,11 @@ module _ {mode : Mode} {i o : ℕ} {rule condition : List ℕ} {old new : Buffer
       ⊎_elim
       (λ z.
       let v = m.served z in
-      subst (λ (x : Answer). length (listing i new x) ≤ output_size) (sym v.1) (served_length (ap number_of z) v.0 v.2))
+      subst (λ (x : Answer). length (listing i new x) ≤ output_size) (sym v.1) (served_length z v.0 v.2))
       (λ e.
-      subst (λ (x : Answer). length (listing i new x) ≤ output_size) (sym e)
-      (refusal_length (number_of m.refusal) (place_of m.refusal) (number_small m.refusal) refusal_place))
+      subst (λ (x : Answer). length (listing i new x) ≤ output_size) (sym e.1.1)
+      (refusal_length (number_of e.0) (place_of e.0) (number_small e.0)
+      (subst (λ (x : Option Refusal). first_place x ≤ text_limit) e.1.0 refusal_place)))
       (served_or_refused m)
 
 -- what the program prints is no longer than its output

@@ -1,34 +1,37 @@
--- Laws of base ten (specs/Decimal.antt): a number below 10 is one digit, and any other is the digits of its tenth and the last digit.
+-- Numbers in base ten (specs/Decimal.antt) are the library's.
 -- Assumes nothing.
-use Prim.Native.Nat.{ℕ, zero, suc, ◌/◌, ◌%◌, ◌≤◌, ◌<◌}
-use mathlib.Core.Path.{◌≡◌, refl, sym}
+use Prim.Native.Nat.{ℕ, zero, suc, ◌+◌, ◌/◌, ◌%◌, ◌^◌, ◌≤◌, ◌<◌}
+use mathlib.Core.Path.{◌≡◌, refl, sym, ◌∙◌}
 use mathlib.Core.List.{[], ◌∷◌, ◌++◌}
 use native.Mathlib.Omega.{arith}
 use lib.Dec.{ltb}
 use borrow.Author.Tests.{lt-ltb, le-ltb, ltb-false}
+use Rattle.std.specs.Fmt.{decimal as text_of}
+use Rattle.std.proofs.lemmas.Fmt.{decimal_from_appends, length-decimal-le_succ}
 use Rattle.reader.proofs.BoolLaws.{on}
 use Rattle.listing.specs.Decimal.{digit, digits, decimal}
 
-pub digits_small : (k n : ℕ) → n < 10 → digits k n ≡ digit n ∷ []
+digits_small : (k n : ℕ) → n < 10 → digits k n ≡ digit n ∷ []
 unfolding digits
 digits_small zero n h = refl
 digits_small (suc k) n h = rw (lt-ltb n 10 h) refl
 
--- any limit from n on is enough
-pub digits_same : (j k n : ℕ) → n ≤ j → n ≤ k → digits j n ≡ digits k n
+digits_large : (k n : ℕ) → 10 ≤ n → digits (suc k) n ≡ digits k (n / 10) ++ ((48 + n % 10) ∷ [])
 unfolding digits
-digits_same zero k n g h = sym (digits_small k n (omega arith))
-digits_same (suc j) zero n g h = digits_small (suc j) n (omega arith)
-digits_same (suc j) (suc k) n g h =
+digits_large k n h = rw (le-ltb n 10 h) refl
+
+-- one more than the number is enough of a limit too
+one_more : (j n : ℕ) → n ≤ j → digits j n ≡ digits (suc j) n
+unfolding digits
+one_more zero n h = sym (digits_small 1 n (omega arith))
+one_more (suc j) n h =
     on (ltb n 10)
     (λ e. rw e refl)
-    (λ e. let l : 10 ≤ n = ltb-false n 10 e in rw (e, digits_same j k (n / 10) (omega arith) (omega arith)) refl)
+    (λ e. let l : 10 ≤ n = ltb-false n 10 e in rw (e, one_more j (n / 10) (omega arith)) refl)
 
-pub decimal_small : (n : ℕ) → n < 10 → decimal n ≡ digit n ∷ []
+pub decimal_same : (n : ℕ) → n < 2 ^ 64 → decimal n ≡ text_of n
 unfolding decimal
-decimal_small n h = digits_small n n h
-
-pub decimal_large : (n : ℕ) → 10 ≤ n → decimal n ≡ decimal (n / 10) ++ (digit (n % 10) ∷ [])
-unfolding decimal digits
-decimal_large zero h = absurd (omega arith)
-decimal_large (suc m) h = rw (le-ltb (suc m) 10 h, digits_same m (suc m / 10) (suc m / 10) (omega arith) (omega arith)) refl
+decimal_same n h =
+    one_more n n (omega arith)
+    ∙ decimal_from_appends digits (record { one = λ k m g. digits_small (suc k) m g; more = digits_large }) (suc n) n h
+    (let l = length-decimal-le_succ n h in omega arith)

@@ -2,12 +2,11 @@
 -- its row at most two. The round number is at most n, so that it has at most three digits too.
 -- Assumes nothing.
 use Prim.Native.Nat.{ℕ, zero, suc, ◌+◌, ◌*◌, ◌/◌, ◌%◌, ◌≤◌, ◌<◌}
-use mathlib.Core.Path.{◌≡◌, ap, subst, ◌∙◌}
+use mathlib.Core.Path.{◌≡◌, subst}
 use mathlib.Core.List.{List, [], ◌∷◌, ◌++◌}
 use native.Mathlib.Omega.{arith}
 use lib.Dec.{ltb}
 use lib.ListN.{length, get_or, length-append}
-use borrow.Author.Tests.{ltb-true, ltb-false}
 use Rattle.reader.specs.Limits.{text_limit}
 use Rattle.automaton.specs.Limits.{state_limit, number_limit}
 use Rattle.game.specs.Tables.{no_move}
@@ -16,7 +15,8 @@ use Rattle.listing.specs.Decimal.{digit, digits, decimal}
 use Rattle.listing.specs.Input.{newline, blank}
 use Rattle.listing.specs.Listing.{fields, goal_mark, winner_fields, state_line, state_lines, refusal_line, refused_word, verdict_lines}
 use Rattle.listing.specs.Promise.{output_size}
-use Rattle.listing.proofs.DecimalLaws.{decimal_small, decimal_large}
+use Rattle.std.proofs.lemmas.Fmt.{length-decimal-le}
+use Rattle.listing.proofs.DecimalLaws.{decimal_same}
 use Rattle.listing.proofs.RenderingLaws.{winner_system, winner_environment}
 
 digits_length : (k n : ℕ) → length (digits k n) ≤ suc k
@@ -32,23 +32,11 @@ pub decimal_any : (n : ℕ) → length (decimal n) ≤ suc n
 unfolding decimal
 decimal_any n = digits_length n n
 
-decimal_one : (n : ℕ) → n < 10 → length (decimal n) ≤ 1
-decimal_one n h = rw (decimal_small n h) (omega arith)
-
-decimal_more : (n : ℕ) → 10 ≤ n → length (decimal n) ≡ length (decimal (n / 10)) + 1
-decimal_more n h = ap length (decimal_large n h) ∙ length-append (decimal (n / 10)) (digit (n % 10) ∷ [])
-
 pub decimal_two : (n : ℕ) → n < 100 → length (decimal n) ≤ 2
-decimal_two n h =
-    on (ltb n 10)
-    (λ e. let g = decimal_one n (ltb-true n 10 e) in omega arith)
-    (λ e. let g = decimal_one (n / 10) (omega arith) in omega (arith, decimal_more n (ltb-false n 10 e)))
+decimal_two n h = rw (decimal_same n (omega arith)) (length-decimal-le 2 n (omega arith) (omega arith) (omega arith))
 
 pub decimal_three : (n : ℕ) → n < 1000 → length (decimal n) ≤ 3
-decimal_three n h =
-    on (ltb n 10)
-    (λ e. let g = decimal_one n (ltb-true n 10 e) in omega arith)
-    (λ e. let g = decimal_two (n / 10) (omega arith) in omega (arith, decimal_more n (ltb-false n 10 e)))
+decimal_three n h = rw (decimal_same n (omega arith)) (length-decimal-le 3 n (omega arith) (omega arith) (omega arith))
 
 -- a row of small bytes
 pub fields_length :

@@ -1,12 +1,11 @@
 pub mod WritingLaws
 pub mod DecimalLaws
 pub mod RenderingLaws
-pub mod ScanLaws
 pub mod RequestLaws
 pub mod FillingLaws
-pub mod PromiseLaws
 pub mod LengthLaws
 pub mod BoundLaws
-pub mod ResponseLaws
 pub mod ExampleLaws
+pub mod PromiseLaws
+pub mod ResponseLaws
 pub mod OneAnswer

@@ -7,7 +7,7 @@ use mathlib.Core.List.{List, ◌++◌}
 use mathlib.Core.Logic.{⊎_elim}
 use lib.ListN.{length, take, drop, take-append-drop}
 use Rattle.plays.specs.declared.mode.Mode.{Mode}
-use Rattle.game.specs.declared.answer.Answer.{Answer}
+use Rattle.game.specs.Answer.{Answer}
 use Rattle.game.specs.Rule.{Buffers}
 use Rattle.game.proofs.OneAnswer.{one_rule, same_buffers}
 use Rattle.listing.specs.Listing.{listing}

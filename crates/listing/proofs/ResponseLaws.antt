@@ -26,7 +26,7 @@ take_least n l =
 
 -- what the listing call writes into an output of that size is the whole text
 pub responded : (bytes : List ℕ) (got size : ℕ) (output output' : List ℕ) (r : ℕ) → length bytes ≡ input_size → length output ≡ output_size
-    → size ≡ min got (length bytes)
+    → size ≡ min got input_size
     → Listed (take size bytes) output output' r → Responded bytes got output output' r
 responded bytes got size output output' r a b e l =
     let w = listed_whole l (omega arith) in
@@ -35,7 +35,7 @@ responded bytes got size output output' r a b e l =
       input_size_lem = a;
       output_size_lem = b;
       text = l.text;
-      prints = subst (λ (i : List ℕ). Prints i l.text) (ap (λ (n : ℕ). take n bytes) e ∙ take_least got bytes) l.prints;
+      prints = subst (λ (i : List ℕ). Prints i l.text) (ap (λ (n : ℕ). take n bytes) (e ∙ ap (λ (n : ℕ). min got n) (sym a)) ∙ take_least got bytes) l.prints;
       count = w.0;
       whole = w.1;
       rest = rw (w.0, l.written, take_all (length output) l.text h) (drop-append_seam l.text (drop (length l.text) output));

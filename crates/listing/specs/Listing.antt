@@ -1,13 +1,13 @@
 -- What the program prints (specification, "Program"), as a function of the answer and of the buffers that the call leaves: the verdict, n and the round
 -- number, then a line for each state, or the refusal's number and place. Fields are parted by one blank and each line ends with 0x0A.
 -- Assumes nothing.
-use Rattle.std.specs.Prelude.{ℕ, zero, suc, ◌*◌, ◌^◌, Bool, cond, List, [], ◌∷◌, ◌++◌, eqb, get_or}
+use Rattle.std.specs.Prelude.{ℕ, zero, suc, ◌*◌, ◌^◌, Bool, cond, List, [], ◌∷◌, ◌++◌, eqb, get_or, Ok, Err}
 use Rattle.plays.specs.Strategy.{Table}
 use Rattle.plays.specs.Arena.{State}
 use Rattle.reader.specs.Text.{Text}
 use Rattle.reader.specs.Refusal.{number_of, place_of}
-use Rattle.game.specs.declared.answer.Answer.{Answer}
-use Rattle.game.specs.declared.answer.Answer.TheVariants.{Can, Cannot, Refused}
+use Rattle.game.specs.declared.answer.Outcome.TheVariants.{Can, Cannot}
+use Rattle.game.specs.Answer.{Answer}
 use Rattle.game.specs.Rule.{Buffers}
 use Rattle.game.specs.Tables.{no_move}
 use Rattle.listing.specs.Decimal.{decimal}
@@ -65,9 +65,9 @@ verdict_lines inputs accepting system environment word n r =
 
 -- the whole listing, with i inputs; "cannot" has the round number 0
 abbrev pub listing : (i : ℕ) (tables : Buffers) (answer : Answer) → Text
-listing i tables (Can n r) = verdict_lines (2 ^ i) tables.accepting tables.system tables.environment can_word n r
-listing i tables (Cannot n) = verdict_lines (2 ^ i) tables.accepting tables.system tables.environment cannot_word n 0
-listing i tables (Refused x) = refusal_line (number_of x) (place_of x)
+listing i tables (Ok (Can n r)) = verdict_lines (2 ^ i) tables.accepting tables.system tables.environment can_word n r
+listing i tables (Ok (Cannot n)) = verdict_lines (2 ^ i) tables.accepting tables.system tables.environment cannot_word n 0
+listing i tables (Err x) = refusal_line (number_of x) (place_of x)
 
 -- refusal 14, which only the program has: the input is no request
 abbrev pub malformed : Text

@@ -5,7 +5,7 @@ use Rattle.std.specs.Prelude.{ℕ, suc, ◌*◌, min, ◌≡◌, ◌++◌, ◌�
 use Rattle.reader.specs.Text.{Text}
 use Rattle.plays.specs.declared.mode.Mode.{Mode}
 use Rattle.automaton.specs.Limits.{state_limit, number_limit, letter_limit}
-use Rattle.game.specs.declared.answer.Answer.{Answer}
+use Rattle.game.specs.Answer.{Answer}
 use Rattle.game.specs.Rule.{Buffers, buffers, RuleSolved}
 use Rattle.listing.specs.Input.{input_limit, Asks}
 use Rattle.listing.specs.Listing.{listing, malformed}

@@ -1,139 +1,97 @@
-// The lines of the input.
-ghost use Rattle.std.specs.Prelude.{◌≡◌, true, cond, ◌≤◌, ◌<◌, length, get_or, drop};
-ghost use Rattle.listing.specs.inner.Scan.{begins_with, line_end, is_digit, digit_at, digit_line, is_fair_line};
-ghost use Rattle.listing.specs.inner.Scan.{is_stable_line, mode_in, condition_start, has_texts, is_request};
+// The parts of an input.
+ghost use Rattle.std.specs.Prelude.{◌≡◌, ◌++◌, ◌∷◌, ◌≤◌, ◌==◌, MatchOption, position, ℕ, List};
+ghost use Rattle.plays.specs.declared.mode.Mode.{Mode};
+ghost use Rattle.listing.specs.Decimal.{digit};
+ghost use Rattle.listing.specs.Input.{newline, blank, mode_word, Line};
 
 use crate::limits::INPUT_LIMIT;
 use plays::mode::Mode;
 
-// Whether the text from a place on begins with a word.
-fn begins_with(text: &[u8], at: usize, word: &[u8]) -> bool
-    requires { at ≤ length text.now }
-    ensures { result ≡ begins_with word.now (drop at text.now) }
+// What an input asks for: the numbers of inputs and outputs, the mode and the two texts.
+#[derive(Clone, Copy)]
+pub(crate) struct Request<'a> {
+    pub(crate) i: usize,
+    pub(crate) o: usize,
+    pub(crate) mode: Mode,
+    pub(crate) condition: &'a [u8],
+    pub(crate) rule: &'a [u8],
+}
+
+// The number of a digit.
+fn digit(b: u8) -> Option<usize>
+    ensures { MatchOption result ((d : ℕ) → d ≤ 9 → b ≡ digit d → ⊥) (λ d. (d ≤ 9) × (b ≡ digit d)) }
 {
-    let mut k: usize = 0;
-    while k < word.len() {
-        if text.len() - at <= k {
-            return false;
+    if b.is_ascii_digit() {
+        Some(usize::from(b - b'0'))
+    } else {
+        None
+    }
+}
+
+// The two numbers of the first line, and what stands after that line.
+fn split_numbers(text: &[u8]) -> Option<(usize, usize, &[u8])>
+    ensures { MatchOption result
+        ((i o : ℕ) (rest : List ℕ) → i ≤ 9 → o ≤ 9 → text.now ≡ digit i ∷ blank ∷ digit o ∷ newline ∷ rest → ⊥)
+        (λ r. (r.0 ≤ 9) × (r.1 ≤ 9) × (text.now ≡ digit r.0 ∷ blank ∷ digit r.1 ∷ newline ∷ r.2.now)) }
+{
+    let [i, b' ', o, b'\n', rest @ ..] = text else {
+        return None;
+    };
+    Some((digit(*i)?, digit(*o)?, rest))
+}
+
+// The mode of the first line, and what stands after that line.
+fn split_mode(text: &[u8]) -> Option<(Mode, &[u8])>
+    ensures { MatchOption result
+        ((mode : Mode) (rest : List ℕ) → text.now ≡ mode_word mode ++ (newline ∷ rest) → ⊥)
+        (λ r. text.now ≡ mode_word r.0 ++ (newline ∷ r.1.now)) }
+{
+    if let Some(rest) = text.strip_prefix(b"fair\n") {
+        return Some((Mode::Fair, rest));
+    }
+    let rest = text.strip_prefix(b"stable\n")?;
+    Some((Mode::Stable, rest))
+}
+
+// The index of the first 0x0A.
+fn newline_at(text: &[u8]) -> Option<usize>
+    ensures { result ≡ position (λ b. b == newline) text.now }
+{
+    text.iter().position(|b| *b == b'\n')
+}
+
+// The first line without its 0x0A, and what stands after that.
+fn split_line(text: &[u8]) -> Option<(&[u8], &[u8])>
+    ensures { MatchOption result (Line text.now)
+        (λ r. Line r.0.now × (text.now ≡ r.0.now ++ (newline ∷ r.1.now))) }
+{
+    let end = newline_at(text)?;
+    Some((&text[..end], &text[end + 1..]))
+}
+
+impl<'a> Request<'a> {
+    ghost use Rattle.listing.specs.inner.Parsing.{AsksNothing, AsksFor};
+
+    // What an input asks for, if it is a request.
+    pub(crate) fn parse(input: &'a [u8]) -> Option<Request<'a>>
+        ensures { MatchOption result (AsksNothing input.now) (λ r. AsksFor input.now r) }
+    {
+        if INPUT_LIMIT < input.len() {
+            return None;
         }
-        if text[at + k] != word[k] {
-            return false;
+        let (i, o, rest) = split_numbers(input)?;
+        let (mode, rest) = split_mode(rest)?;
+        let (condition, rest) = split_line(rest)?;
+        let (rule, rest) = split_line(rest)?;
+        if !rest.is_empty() {
+            return None;
         }
-        k += 1;
+        Some(Request {
+            i,
+            o,
+            mode,
+            condition,
+            rule,
+        })
     }
-    true
-}
-
-// Where the line that begins at a place ends: at the next 0x0A, or at the text's end.
-pub(crate) fn line_end(text: &[u8], from: usize) -> usize
-    requires { from ≤ length text.now }
-    ensures { result ≡ line_end text.now from }
-{
-    let mut k = from;
-    while k < text.len() {
-        if text[k] == 10 {
-            return k;
-        }
-        k += 1;
-    }
-    k
-}
-
-// Whether a byte is a digit.
-fn is_digit(b: u8) -> bool
-    ensures { result ≡ is_digit b }
-{
-    if b < 48 {
-        return false;
-    }
-    b <= 57
-}
-
-// The number of the digit at a place.
-pub(crate) fn digit_at(input: &[u8], k: usize) -> usize
-    requires { (k < length input.now) × (48 ≤ get_or input.now k 0) }
-    ensures { result ≡ digit_at input.now k }
-{
-    (input[k] - 48) as usize
-}
-
-// Whether the first line is a digit, a blank and a digit.
-fn digit_line(input: &[u8]) -> bool
-    ensures { result ≡ digit_line input.now }
-{
-    if input.len() < 4 {
-        return false;
-    }
-    if !is_digit(input[0]) {
-        return false;
-    }
-    if input[1] != 32 {
-        return false;
-    }
-    if !is_digit(input[2]) {
-        return false;
-    }
-    input[3] == 10
-}
-
-// Whether the second line is `fair` or `stable`.
-fn mode_line(input: &[u8]) -> bool
-    requires { 4 ≤ length input.now }
-    ensures { result ≡ cond (is_fair_line input.now) true (is_stable_line input.now) }
-{
-    if begins_with(input, 4, b"fair\n") {
-        return true;
-    }
-    begins_with(input, 4, b"stable\n")
-}
-
-// The mode that the second line has.
-pub(crate) fn mode_of(input: &[u8]) -> Mode
-    requires { 4 ≤ length input.now }
-    ensures { result ≡ mode_in input.now }
-{
-    if begins_with(input, 4, b"fair\n") {
-        return Mode::Fair;
-    }
-    Mode::Stable
-}
-
-// Where the condition begins.
-#[tactic(auto, unfolding(crate::specs::inner::Scan::condition_start))]
-pub(crate) fn condition_start(input: &[u8]) -> usize
-    requires { 4 ≤ length input.now }
-    ensures { result ≡ condition_start input.now }
-{
-    if begins_with(input, 4, b"fair\n") {
-        return 9;
-    }
-    11
-}
-
-// Whether the last two lines are there, and nothing after them.
-fn text_lines(input: &[u8], start: usize) -> bool
-    requires { start ≤ length input.now }
-    ensures { result ≡ has_texts input.now start }
-{
-    let end = line_end(input, start);
-    if end >= input.len() {
-        return false;
-    }
-    line_end(input, end + 1) + 1 == input.len()
-}
-
-// Whether the input is four such lines.
-pub(crate) fn is_request(input: &[u8]) -> bool
-    ensures { result ≡ is_request input.now }
-{
-    if INPUT_LIMIT < input.len() {
-        return false;
-    }
-    if !digit_line(input) {
-        return false;
-    }
-    if !mode_line(input) {
-        return false;
-    }
-    text_lines(input, condition_start(input))
 }

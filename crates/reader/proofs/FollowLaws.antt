@@ -1,27 +1,18 @@
 -- Which marks can follow a formula of a level.
 -- Assumes nothing.
-use mathlib.Core.Path.{◌≡◌, ap}
+use mathlib.Core.Path.{◌≡◌, ap, ◌∙◌}
 use mathlib.Core.List.{List, [], ◌∷◌}
 use Prim.Native.Nat.{ℕ, suc, ◌<◌}
 use native.Mathlib.Nat.{lt_irrefl}
 use native.Mathlib.Omega.{arith}
-use Rattle.reader.specs.declared.marks.Kind.{Kind}
-use Rattle.reader.specs.declared.marks.Kind.TheVariants.{Operand, Prefix, Infix, Open, Close, Other}
+use Rattle.reader.specs.declared.marks.Kind.TheVariants.{Infix, Close}
 use Rattle.reader.specs.Marks.{mark_kind}
-use Rattle.reader.specs.inner.Steps.{level_of, first_level, CanFollow}
-
-pub level_infix : (k : Kind) (l : ℕ) → level_of k ≡ suc l → k ≡ Infix (suc l)
-level_infix Operand l e = absurd (omega arith)
-level_infix Prefix l e = absurd (omega arith)
-level_infix (Infix m) l e = ap (λ (n : ℕ). Infix n) e
-level_infix Open l e = absurd (omega arith)
-level_infix Close l e = absurd (omega arith)
-level_infix Other l e = absurd (omega arith)
+use Rattle.reader.specs.inner.Steps.{CanFollow}
 
 -- no infix mark of the level can follow
-pub follow_level : (l : ℕ) (s : List ℕ) → CanFollow (suc l) s → first_level s ≡ suc l → ⊥
-follow_level l [] c e = omega arith
-follow_level l (b ∷ s) c e = lt_irrefl (suc l) (c (suc l) (level_infix (mark_kind b) l e))
+pub follow_level : (l b : ℕ) (s t : List ℕ) → CanFollow (suc l) s → s ≡ b ∷ t → mark_kind b ≡ Infix (suc l) → ⊥
+follow_level l b [] t c e k = let z : ◌≡◌ {A = ℕ} 0 1 = cc in omega arith
+follow_level l b (a ∷ s) t c e k = let f : a ≡ b = cc in lt_irrefl (suc l) (c (suc l) (ap mark_kind f ∙ k))
 
 -- what can follow a level can follow the one below
 pub follow_down : (l : ℕ) (s : List ℕ) → CanFollow (suc l) s → CanFollow l s

@@ -10,16 +10,16 @@ use native.Mathlib.Omega.{arith}
 use lib.ListN.{take}
 use Rattle.reader.specs.declared.marks.Kind.{Kind}
 use Rattle.reader.specs.declared.marks.Kind.TheVariants.{Operand, Prefix, Infix, Open, Close, Other}
-use Rattle.reader.specs.declared.scan.Step.{Step}
-use Rattle.reader.specs.declared.scan.Step.TheVariants.{Next, Stuck}
-use Rattle.reader.specs.declared.scan.Scanned.{Scanned}
-use Rattle.reader.specs.declared.scan.Scanned.TheVariants.{Whole, Stopped}
+use Rattle.std.specs.Prelude.{Option, Some, None, Result, Ok, Err}
+use Rattle.std.specs.Option.{option_and_then}
+use Rattle.std.proofs.lemmas.Option.{none-some, same_Some}
+use Rattle.reader.specs.declared.scan.ScanState.{ScanState}
 use Rattle.reader.specs.Formula.{Formula}
 use Rattle.reader.specs.Grammar.{without_blanks, Derives, operand, prefix, parens, lower, infixed, Reads}
 use Rattle.reader.specs.Place.{Begins, IsPlace}
-use Rattle.reader.specs.inner.Scan.{mark_step, scan_of}
+use Rattle.reader.specs.inner.Scan.{state, start, mark_step, scan_of}
 use Rattle.reader.proofs.MarkLaws.{InfixLevel}
-use Rattle.reader.proofs.ScanLaws.{on, stuck, without_blanks_append, scanned, scanned_append, scanned_whole, scanned_stop}
+use Rattle.reader.proofs.ScanLaws.{without_blanks_append, scanned, scanned_append, scanned_whole, scanned_stop}
 
 -- every infix mark has a level
 abbrev pub Levels : (ℕ → Kind) → Type 0
@@ -47,7 +47,7 @@ without_blanks_completion false d = without_blanks_closers d
 
 module _ (i : ℕ) (kind : ℕ → Kind) where
   -- a derivation takes the pass over its marks, to the mode after an operand
-  passes : {l : ℕ} {w : List ℕ} {φ : Formula} → Derives i kind l w φ → (rest : List ℕ) (d : ℕ) → scanned kind (w ++ rest) true d ≡ scanned kind rest false d
+  passes : {l : ℕ} {w : List ℕ} {φ : Formula} → Derives i kind l w φ → (rest : List ℕ) (d : ℕ) → scanned kind (w ++ rest) (state true d) ≡ scanned kind rest (state false d)
   unfolding scanned
   passes (operand k f) rest d = rw k
   passes (prefix k x f) rest d = rw k (passes x rest d)
@@ -84,10 +84,13 @@ module _ (i : ℕ) (kind : ℕ → Kind) where
   Nested zero P s = P s
   Nested (suc d) P s = (p : List ℕ) × (a : ℕ) × (q : List ℕ) × (s ≡ p ++ (a ∷ q)) × (kind a ≡ Open) × Nested d AwaitsOperand p × P q
 
-  -- what the marks passed are in each mode, with d parentheses open
-  abbrev State : Bool → ℕ → List ℕ → Type 0
-  State true d s = Nested d AwaitsOperand s
-  State false d s = Nested d (Formulas 4) s
+  -- what the marks passed are in each state: by whether an operand is due, with d parentheses open
+  abbrev Passed : Bool → ℕ → List ℕ → Type 0
+  Passed true d s = Nested d AwaitsOperand s
+  Passed false d s = Nested d (Formulas 4) s
+
+  abbrev PassedAt : ScanState → List ℕ → Type 0
+  PassedAt x s = Passed x.operand_due x.depth s
 
   -- the marks after the last open parenthesis go on
   on_nested : (d : ℕ) (P Q : List ℕ → Type 0) (t : List ℕ) → ((q : List ℕ) → P q → Q (q ++ t)) → (s : List ℕ) → Nested d P s → Nested d Q (s ++ t)
@@ -105,101 +108,100 @@ module _ (i : ℕ) (kind : ℕ → Kind) where
       let e : s ++ (b ∷ []) ≡ h.0 ++ (h.1 ∷ (h.2 ++ (b ∷ []))) = ap (λ (r : List ℕ). r ++ (b ∷ [])) h.3 ∙ append_assoc h.0 (h.1 ∷ h.2) (b ∷ []) in
       rw e (on_nested d AwaitsOperand (Formulas 4) (h.1 ∷ (h.2 ++ (b ∷ []))) (λ q f. f _ _ (parens h.4 k h.6.1)) h.0 h.5)
 
-  moved : (w : Bool) (d : ℕ) (w' : Bool) (d' : ℕ) (s : List ℕ) → Next w d ≡ Next w' d' → State w d s → State w' d' s
-  moved w d w' d' s e h =
-      let ew : w ≡ w' = cc in
-      let ed : d ≡ d' = cc in
-      subst (λ (x : Bool). State x d' s) ew (subst (λ (n : ℕ). State w n s) ed h)
+  moved : (x y : ScanState) (s : List ℕ) → Some x ≡ Some y → PassedAt x s → PassedAt y s
+  moved x y s e h = subst (λ (z : ScanState). PassedAt z s) (same_Some x y e) h
 
-  -- each step keeps the state
+  -- each step keeps what the marks passed are
   module _ (levels : Levels kind) where
-    mark : (b : ℕ) (k : Kind) → kind b ≡ k → (w : Bool) (d : ℕ) (s : List ℕ) (w' : Bool) (d' : ℕ) → mark_step k w d ≡ Next w' d'
-        → State w d s → State w' d' (s ++ (b ∷ []))
-    mark b Operand kb true d s w' d' e h = moved false d w' d' _ e (on_nested d AwaitsOperand (Formulas 4) (b ∷ []) (λ q f. f _ _ (operand kb refl)) s h)
-    mark b Operand kb false d s w' d' e h = absurd (stuck w' d' e)
-    mark b Prefix kb true d s w' d' e h =
-        moved true d w' d' _ e (on_nested d AwaitsOperand AwaitsOperand (b ∷ []) (λ q f x φ y. rw append_assoc (f _ _ (prefix kb y refl))) s h)
-    mark b Prefix kb false d s w' d' e h = absurd (stuck w' d' e)
-    mark b (Infix l) kb true d s w' d' e h = absurd (stuck w' d' e)
-    mark b (Infix l) kb false d s w' d' e h =
+    mark : (b : ℕ) (k : Kind) → kind b ≡ k → (w : Bool) (d : ℕ) (s : List ℕ) (y : ScanState) → mark_step k w d ≡ Some y
+        → Passed w d s → PassedAt y (s ++ (b ∷ []))
+    mark b Operand kb true d s y e h = moved (state false d) y _ e (on_nested d AwaitsOperand (Formulas 4) (b ∷ []) (λ q f. f _ _ (operand kb refl)) s h)
+    mark b Operand kb false d s y e h = absurd (none-some y e)
+    mark b Prefix kb true d s y e h =
+        moved (state true d) y _ e (on_nested d AwaitsOperand AwaitsOperand (b ∷ []) (λ q f x φ y. rw append_assoc (f _ _ (prefix kb y refl))) s h)
+    mark b Prefix kb false d s y e h = absurd (none-some y e)
+    mark b (Infix l) kb true d s y e h = absurd (none-some y e)
+    mark b (Infix l) kb false d s y e h =
         let m = levels b l kb in
-        moved true d w' d' _ e
+        moved (state true d) y _ e
         (on_nested d (Formulas 4) AwaitsOperand (b ∷ []) (λ q f x φ y. rw append_assoc (after f.1 (kb ∙ ap (λ (n : ℕ). Infix n) m.1) m.2 y)) s h)
-    mark b Open kb true d s w' d' e h = moved true (suc d) w' d' _ e (opened d b s kb h)
-    mark b Open kb false d s w' d' e h = absurd (stuck w' d' e)
-    mark b Close kb true d s w' d' e h = absurd (stuck w' d' e)
-    mark b Close kb false zero s w' d' e h = absurd (stuck w' d' e)
-    mark b Close kb false (suc d) s w' d' e h = moved false d w' d' _ e (closed d b s kb h)
-    mark b Other kb w d s w' d' e h = absurd (stuck w' d' e)
+    mark b Open kb true d s y e h = moved (state true (suc d)) y _ e (opened d b s kb h)
+    mark b Open kb false d s y e h = absurd (none-some y e)
+    mark b Close kb true d s y e h = absurd (none-some y e)
+    mark b Close kb false zero s y e h = absurd (none-some y e)
+    mark b Close kb false (suc d) s y e h = moved (state false d) y _ e (closed d b s kb h)
+    mark b Other kb w d s y e h = absurd (none-some y e)
 
     -- and so do the steps at several marks
-    whole : (s : List ℕ) (w : Bool) (d : ℕ) (t : List ℕ) (w' : Bool) (d' : ℕ) → scanned kind s w d ≡ Next w' d' → State w d t → State w' d' (t ++ s)
+    whole : (s : List ℕ) (x : ScanState) (t : List ℕ) (y : ScanState) → scanned kind s x ≡ Some y → PassedAt x t → PassedAt y (t ++ s)
     unfolding scanned
-    whole [] w d t w' d' e h = rw append-nil (moved w d w' d' t e h)
-    whole (b ∷ s) w d t w' d' e h = go (λ v n q g. whole s v n (t ++ (b ∷ [])) w' d' q g) (mark_step (kind b) w d) refl e
+    whole [] x t y e h = rw append-nil (moved x y t e h)
+    whole (b ∷ s) x t y e h = go (λ z q g. whole s z (t ++ (b ∷ [])) y q g) (mark_step (kind b) x.operand_due x.depth) refl e
       where
-        go : ((v : Bool) (n : ℕ) → scanned kind s v n ≡ Next w' d' → State v n (t ++ (b ∷ [])) → State w' d' (t ++ (b ∷ []) ++ s))
-            → (x : Step) → mark_step (kind b) w d ≡ x → on x (scanned kind s) ≡ Next w' d' → State w' d' (t ++ (b ∷ s))
-        go rec (Next v n) p q = subst (λ (r : List ℕ). State w' d' r) (append_assoc t (b ∷ []) s) (rec v n q (mark b (kind b) refl w d t v n p h))
-        go rec Stuck p q = absurd (stuck w' d' q)
+        go : ((z : ScanState) → scanned kind s z ≡ Some y → PassedAt z (t ++ (b ∷ [])) → PassedAt y (t ++ (b ∷ []) ++ s))
+            → (o : Option ScanState) → mark_step (kind b) x.operand_due x.depth ≡ o → option_and_then (scanned kind s) o ≡ Some y → PassedAt y (t ++ (b ∷ s))
+        go rec (Some z) p q = subst (λ (r : List ℕ). PassedAt y r) (append_assoc t (b ∷ []) s) (rec z q (mark b (kind b) refl x.operand_due x.depth t z p h))
+        go rec None p q = absurd (none-some y q)
 
-    whole_formula : (s : List ℕ) → scanned kind s true 0 ≡ Next false 0 → Formulas 4 s
+    whole_formula : (s : List ℕ) → scanned kind s start ≡ Some (state false 0) → Formulas 4 s
     unfolding Nested
-    whole_formula s e = whole s true 0 [] false 0 e (λ x φ y. (φ, raise 4 y))
+    whole_formula s e = whole s start [] (state false 0) e (λ x φ y. (φ, raise 4 y))
 
-    pub accepted : (text : List ℕ) → scan_of kind text 0 true 0 ≡ Whole → (φ : Formula) × Reads i kind text φ
-    accepted text e = whole_formula (without_blanks text) (scanned_whole kind text 0 true 0 e)
+    pub accepted : (text : List ℕ) → scan_of kind text 0 start ≡ Ok tt → (φ : Formula) × Reads i kind text φ
+    accepted text e = whole_formula (without_blanks text) (scanned_whole kind text 0 start e)
 
     module _ (false_operand : kind 48 ≡ Operand) (close : kind 41 ≡ Close) where
-      scanned_closers : (d : ℕ) → scanned kind (closers d) false d ≡ Next false 0
+      scanned_closers : (d : ℕ) → scanned kind (closers d) (state false d) ≡ Some (state false 0)
       unfolding scanned closers
       scanned_closers zero = refl
       scanned_closers (suc d) = rw close (scanned_closers d)
 
-      scanned_completion : (w : Bool) (d : ℕ) → scanned kind (completion w d) w d ≡ Next false 0
+      scanned_completion : (w : Bool) (d : ℕ) → scanned kind (completion w d) (state w d) ≡ Some (state false 0)
       unfolding scanned completion
       scanned_completion true d = rw false_operand (scanned_closers d)
       scanned_completion false d = scanned_closers d
 
       -- what the scan takes can begin a text, and what begins a text the scan takes
-      begins : (s : List ℕ) (w : Bool) (d : ℕ) → scanned kind (without_blanks s) true 0 ≡ Next w d → Begins i kind s
-      begins s w d e =
-          let m : without_blanks (s ++ completion w d) ≡ without_blanks s ++ completion w d =
-          without_blanks_append s (completion w d) ∙ ap (λ (r : List ℕ). without_blanks s ++ r) (without_blanks_completion w d) in
-          let r : Formulas 4 (without_blanks s ++ completion w d) =
-          whole_formula (without_blanks s ++ completion w d)
-          (scanned_append kind (without_blanks s) (completion w d) true 0 ∙ ap (λ (x : Step). on x (scanned kind (completion w d))) e
-          ∙ scanned_completion w d) in
-          (completion w d, r.0, rw m r.1)
+      begins : (s : List ℕ) (x : ScanState) → scanned kind (without_blanks s) start ≡ Some x → Begins i kind s
+      begins s x e =
+          let u = completion x.operand_due x.depth in
+          let m : without_blanks (s ++ u) ≡ without_blanks s ++ u =
+          without_blanks_append s u ∙ ap (λ (r : List ℕ). without_blanks s ++ r) (without_blanks_completion x.operand_due x.depth) in
+          let r : Formulas 4 (without_blanks s ++ u) =
+          whole_formula (without_blanks s ++ u)
+          (scanned_append kind (without_blanks s) u start ∙ ap (λ (o : Option ScanState). option_and_then (scanned kind u) o) e
+          ∙ scanned_completion x.operand_due x.depth) in
+          (u, r.0, rw m r.1)
 
-      scanned_reads : (text : List ℕ) (φ : Formula) → Reads i kind text φ → scanned kind (without_blanks text) true 0 ≡ Next false 0
+      scanned_reads : (text : List ℕ) (φ : Formula) → Reads i kind text φ → scanned kind (without_blanks text) start ≡ Some (state false 0)
       unfolding scanned
       scanned_reads text φ x = rw append-nil at (passes x [] 0)
 
-      not_begins : (s : List ℕ) → scanned kind (without_blanks s) true 0 ≡ Stuck → Begins i kind s → ⊥
+      not_begins : (s : List ℕ) → scanned kind (without_blanks s) start ≡ None → Begins i kind s → ⊥
       not_begins s e b =
-          let g : scanned kind (without_blanks (s ++ b.0)) true 0 ≡ Next false 0 = scanned_reads (s ++ b.0) b.1 b.2 in
-          let m : scanned kind (without_blanks (s ++ b.0)) true 0 ≡ Stuck =
-          ap (λ (r : List ℕ). scanned kind r true 0) (without_blanks_append s b.0)
-          ∙ scanned_append kind (without_blanks s) (without_blanks b.0) true 0 ∙ ap (λ (x : Step). on x (scanned kind (without_blanks b.0))) e in
-          stuck false 0 (sym m ∙ g)
+          let g : scanned kind (without_blanks (s ++ b.0)) start ≡ Some (state false 0) = scanned_reads (s ++ b.0) b.1 b.2 in
+          let m : scanned kind (without_blanks (s ++ b.0)) start ≡ None =
+          ap (λ (r : List ℕ). scanned kind r start) (without_blanks_append s b.0)
+          ∙ scanned_append kind (without_blanks s) (without_blanks b.0) start
+          ∙ ap (λ (o : Option ScanState). option_and_then (scanned kind (without_blanks b.0)) o) e in
+          none-some _ (sym m ∙ g)
 
-      pub place : (text : List ℕ) (k : ℕ) → scan_of kind text 0 true 0 ≡ Stopped k → IsPlace i kind text k
+      pub place : (text : List ℕ) (k : ℕ) → scan_of kind text 0 start ≡ Err k → IsPlace i kind text k
       place text k e =
-          let r = scanned_stop kind text 0 true 0 k e in
+          let r = scanned_stop kind text 0 start k e in
           let t = r.2 in
           let f : k ≡ r.0 = omega (arith, r.1) in
           rw f (record {
             within = t.within;
-            begins = begins (take r.0 text) t.passed.0 t.passed.1 t.passed.2;
+            begins = begins (take r.0 text) t.passed.0 t.passed.1;
             stops = λ h. not_begins (take (suc r.0) text) (t.stuck_at h);
             ends = λ φ x. t.not_whole (scanned_reads text φ x);
           })
 
       -- a text of the grammar is accepted
-      pub accepts : (text : List ℕ) (φ : Formula) → Reads i kind text φ → scan_of kind text 0 true 0 ≡ Whole
-      accepts text φ x = go (scan_of kind text 0 true 0) refl
+      pub accepts : (text : List ℕ) (φ : Formula) → Reads i kind text φ → scan_of kind text 0 start ≡ Ok tt
+      accepts text φ x = go (scan_of kind text 0 start) refl
         where
-          go : (r : Scanned) → scan_of kind text 0 true 0 ≡ r → r ≡ Whole
-          go Whole e = refl
-          go (Stopped k) e = absurd ((place text k e).ends φ x)
+          go : (r : Result (Unit {0}) ℕ) → scan_of kind text 0 start ≡ r → r ≡ Ok tt
+          go (Ok _) e = refl
+          go (Err k) e = absurd ((place text k e).ends φ x)

@@ -7,7 +7,10 @@ use Rattle.reader.specs.Formula.{Formula, eventually, next, conj, until, name, u
 use Rattle.reader.specs.Marks.{kind_in, allowed_by, is_temporal_mark, among_of, mark_kind, operand_of, unary_of, binary_of}
 use Rattle.reader.specs.Grammar.{without_blanks, Reads, operand, prefix, parens, lower, infixed}
 use Rattle.reader.specs.Place.{IsPlace}
-use Rattle.reader.specs.inner.Nodes.{word_of, code, nodes_of}
+use Rattle.reader.specs.declared.nodes.UnaryOp.TheVariants as op
+use Rattle.reader.specs.declared.nodes.BinaryOp.TheVariants as pair
+use Rattle.reader.specs.declared.nodes.Node.TheVariants as node
+use Rattle.reader.specs.inner.Nodes.{code, nodes_of}
 use Rattle.reader.specs.inner.Scan.{step_of, scan_of}
 use Rattle.reader.proofs.ReadingLaws.{place_of}
 
@@ -22,8 +25,8 @@ reads_again =
     (prefix refl (parens {w = 97 ∷ 38 ∷ 88 ∷ 97 ∷ []} refl refl
     (lower (lower (infixed {u = 97 ∷ []} refl (lower (operand refl refl)) (lower (lower (prefix refl (operand refl refl) refl))) refl)))) refl))))
 
--- its words: a, a, X with coordinate 2, & with a on its left, F with coordinate 1
-nodes_again : nodes_of again ≡ 2 ∷ 2 ∷ word_of 4 0 2 ∷ word_of 10 1 2 ∷ word_of 6 0 1 ∷ []
+-- its nodes: a, a, X with coordinate 2, & with a on its left, F with coordinate 1
+nodes_again : nodes_of again ≡ node.Name 0 ∷ node.Name 0 ∷ node.Unary op.Next 2 ∷ node.Binary pair.And 1 2 ∷ node.Unary op.Eventually 1 ∷ []
 unfolding code size operators
 nodes_again = refl
 

@@ -1,83 +1,90 @@
--- The counts of a text, turn by turn as the loop takes them, and that they are the counts of its formula.
+-- The counts of a text are the counts of its formula.
 -- Assumes nothing.
-use mathlib.Core.Path.{◌≡◌, refl, ap}
-use mathlib.Core.Bool.{Bool, true, false, cond}
-use mathlib.Core.List.{List, [], ◌∷◌, ◌++◌}
-use Prim.Native.Nat.{ℕ, suc, ◌+◌, ◌≤◌, ◌<◌}
-use native.Mathlib.Numerals.{add-one}
+use mathlib.Core.Path.{◌≡◌, refl, sym, ap, ◌∙◌}
+use mathlib.Core.Bool.{Bool, false, cond}
+use mathlib.Core.List.{[], ◌∷◌, ◌++◌}
+use Prim.Native.Nat.{ℕ, suc, ◌+◌}
 use native.Mathlib.Omega.{arith}
-use lib.Dec.{eqb}
-use lib.ListN.{length, get_or, drop, drop_of_length-le}
-use lib.Seq.{drop-cons}
-use borrow.Author.Tests.{eqb-true}
+use Rattle.std.proofs.lemmas.Bool.Decides.{nat_tests}
+use Rattle.std.specs.List.{count_by}
+use Rattle.std.proofs.lemmas.List.Sums.{sum_by-cons, sum_by-append}
+use Rattle.reader.specs.declared.marks.Kind.{Kind}
+use Rattle.reader.specs.Text.{Text}
 use Rattle.reader.specs.Formula.{Formula, size, operators}
 use Rattle.reader.specs.Marks.{mark_kind, is_temporal_mark, among_of}
 use Rattle.reader.specs.Grammar.{without_blanks, Derives, operand, prefix, parens, lower, infixed}
-use Rattle.reader.specs.inner.Counts.{tick, weight_of, count_of}
-use Rattle.reader.proofs.MarkLaws.{operand_size, operand_operators, prefix_tick, infix_tick}
+use Rattle.reader.specs.inner.Counts.{tick, writes_node, node_count, operator_count}
+use Rattle.reader.proofs.MarkLaws.{operand_size, operand_operators, operand_tick, open_tick, close_tick, prefix_tick, infix_tick}
 
-pub tick_small : (b : ℕ) → tick b ≤ 1
+-- what no blank is counted by counts the marks alone
+count_marks : (p : ℕ → Bool) → p 32 ≡ false → (s : Text) → count_by p (without_blanks s) ≡ count_by p s
+unfolding without_blanks
+count_marks p n [] = refl
+count_marks p n (b ∷ s) =
+    grind (arith, nat_tests, count_marks p n s, sum_by-cons (λ (x : ℕ). cond (p x) 1 0) b s, sum_by-cons (λ (x : ℕ). cond (p x) 1 0) b (without_blanks s))
+
+-- 1 for a mark that writes a node, else 0
+abbrev node_tick : Kind → ℕ
+node_tick k = cond (writes_node k) 1 0
+
+node_cons : (b : ℕ) (s : Text) → node_count (b ∷ s) ≡ node_tick (mark_kind b) + node_count s
+node_cons b s = sum_by-cons (λ (x : ℕ). node_tick (mark_kind x)) b s
+
+node_append : (u v : Text) → node_count (u ++ v) ≡ node_count u + node_count v
+node_append u v = sum_by-append (λ (x : ℕ). node_tick (mark_kind x)) u v
+
+operator_cons : (b : ℕ) (s : Text) → operator_count (b ∷ s) ≡ tick b + operator_count s
 unfolding tick
-tick_small b = go (is_temporal_mark b)
-  where
-    go : (t : Bool) → cond t 1 0 ≤ 1
-    go true = omega arith
-    go false = omega arith
+operator_cons b s = sum_by-cons tick b s
 
-pub count_at : (t : Bool) (s : List ℕ) (at : ℕ) → at < length s
-    → count_of t (drop at s) ≡ weight_of t (tick (get_or s at 0)) (mark_kind (get_or s at 0)) + count_of t (drop (at + 1) s)
-unfolding count_of
-count_at t s at h = rw (drop-cons s at 0 h, add-one)
-
-pub count_end : (t : Bool) (s : List ℕ) (at : ℕ) → length s ≤ at → count_of t (drop at s) ≡ 0
-unfolding count_of
-count_end t s at h = rw (drop_of_length-le s h)
-
-count_of_append : (t : Bool) (u v : List ℕ) → count_of t (u ++ v) ≡ count_of t u + count_of t v
-unfolding count_of
-count_of_append t [] v = omega arith
-count_of_append t (b ∷ u) v = omega (arith, count_of_append t u v)
-
--- blanks add nothing
-blank : (t : Bool) (b : ℕ) → b ≡ 32 → weight_of t (tick b) (mark_kind b) ≡ 0
-unfolding mark_kind among_of
-blank t b e = rw e
-
-pub count_marks : (t : Bool) (s : List ℕ) → count_of t (without_blanks s) ≡ count_of t s
-unfolding count_of without_blanks
-count_marks t [] = refl
-count_marks t (b ∷ s) = go (count_marks t s) (eqb b 32) refl
-  where
-    go : count_of t (without_blanks s) ≡ count_of t s → (x : Bool) → eqb b 32 ≡ x
-        → count_of t (cond x (without_blanks s) (b ∷ without_blanks s)) ≡ weight_of t (tick b) (mark_kind b) + count_of t s
-    go e true q = omega (arith, blank t b (eqb-true b 32 q))
-    go e false q = omega arith
+operator_append : (u v : Text) → operator_count (u ++ v) ≡ operator_count u + operator_count v
+unfolding tick
+operator_append u v = sum_by-append tick u v
 
 -- a formula has as many nodes as its marks
-pub count_nodes : {i l : ℕ} {w : List ℕ} {φ : Formula} → Derives i mark_kind l w φ → count_of false w ≡ size φ
-unfolding count_of size
-count_nodes {i} (operand {b = b} k e) = rw k (omega (arith, ap size e, operand_size i b 0))
-count_nodes (prefix k x e) = rw k (omega (arith, count_nodes x, ap size e))
-count_nodes (parens {a = a} {b = b} {w = w} ka kb x) = rw ka (omega (arith, count_of_append false w (b ∷ []), count_nodes x, ap (weight_of false (tick b)) kb))
+count_nodes : {i l : ℕ} {w : Text} {φ : Formula} → Derives i mark_kind l w φ → node_count w ≡ size φ
+unfolding size
+count_nodes {i} (operand {b = b} k e) = omega (arith, node_cons b [], ap node_tick k, ap size e, operand_size i b)
+count_nodes (prefix {b = b} {w = w} k x e) = omega (arith, node_cons b w, ap node_tick k, count_nodes x, ap size e)
+count_nodes (parens {a = a} {b = b} {w = w} ka kb x) =
+    omega (arith, node_cons a (w ++ (b ∷ [])), node_append w (b ∷ []), node_cons b [], ap node_tick ka, ap node_tick kb, count_nodes x)
 count_nodes (lower x) = count_nodes x
 count_nodes (infixed {b = b} {u = u} {v = v} k x y e) =
-    omega (arith, count_of_append false u (b ∷ v), count_nodes x, count_nodes y, ap (weight_of false (tick b)) k, ap size e)
+    omega (arith, node_append u (b ∷ v), node_cons b v, ap node_tick k, count_nodes x, count_nodes y, ap size e)
 
 -- and as many temporal operators
-pub count_operators : {i l : ℕ} {w : List ℕ} {φ : Formula} → Derives i mark_kind l w φ → count_of true w ≡ operators φ
-unfolding count_of operators
-count_operators {i} (operand {b = b} k e) = rw k (omega (arith, ap operators e, operand_operators i b 0))
-count_operators (prefix {b = b} {φ = α} k x e) = rw k (omega (arith, count_operators x, ap operators e, prefix_tick b k (operators α)))
+count_operators : {i l : ℕ} {w : Text} {φ : Formula} → Derives i mark_kind l w φ → operator_count w ≡ operators φ
+unfolding operators
+count_operators {i} (operand {b = b} k e) = omega (arith, operator_cons b [], operand_tick b k, ap operators e, operand_operators i b)
+count_operators (prefix {b = b} {w = w} {φ = α} k x e) =
+    omega (arith, operator_cons b w, count_operators x, ap operators e, prefix_tick b k (operators α))
 count_operators (parens {a = a} {b = b} {w = w} ka kb x) =
-    rw ka (omega (arith, count_of_append true w (b ∷ []), count_operators x, ap (weight_of true (tick b)) kb))
+    omega (
+      arith,
+      operator_cons a (w ++ (b ∷ [])),
+      operator_append w (b ∷ []),
+      operator_cons b [],
+      open_tick a ka,
+      close_tick b kb,
+      count_operators x,
+    )
 count_operators (lower x) = count_operators x
 count_operators (infixed {l = l} {b = b} {u = u} {v = v} {ψ = β} k x y e) =
     omega (
       arith,
-      count_of_append true u (b ∷ v),
+      operator_append u (b ∷ v),
+      operator_cons b v,
       count_operators x,
       count_operators y,
-      ap (weight_of true (tick b)) k,
       ap operators e,
       infix_tick b (suc l) k (operators β),
     )
+
+module _ {i : ℕ} (text : Text) {φ : Formula} (x : Derives i mark_kind 4 (without_blanks text) φ) where
+  pub size_count : size φ ≡ node_count text
+  unfolding mark_kind among_of
+  size_count = sym (count_nodes x) ∙ count_marks (λ (b : ℕ). writes_node (mark_kind b)) refl text
+
+  pub operators_count : operators φ ≡ operator_count text
+  unfolding is_temporal_mark among_of
+  operators_count = sym (count_operators x) ∙ count_marks is_temporal_mark refl text

@@ -2,7 +2,7 @@
 -- Assumes nothing.
 use mathlib.Core.Path.{◌≡◌, refl, sym, ap, subst, ◌∙◌}
 use mathlib.Core.Logic.{◌⊎◌, inl, inr}
-use mathlib.Core.Bool.{Bool, true, cond}
+use mathlib.Core.Bool.{Bool, cond}
 use mathlib.Core.List.{List, [], ◌∷◌, ◌++◌, append_assoc}
 use Prim.Native.Nat.{ℕ, suc, ◌≤◌, ◌<◌}
 use native.Mathlib.Nat.{lt_of_not-le, le_antisymm}
@@ -14,18 +14,16 @@ use lib.ListN.{length, take, drop, take-append-drop}
 use lib.Seq.{take-take}
 use Rattle.reader.specs.declared.marks.Kind.{Kind}
 use Rattle.reader.specs.declared.marks.Kind.TheVariants.{Operand, Prefix, Open}
-use Rattle.reader.specs.declared.scan.Scanned.{Scanned}
-use Rattle.reader.specs.declared.scan.Scanned.TheVariants.{Whole, Stopped}
-use Rattle.reader.specs.declared.reading.Reading.{Reading}
-use Rattle.reader.specs.declared.reading.Reading.TheVariants.{Good, TooLong, Bad, TooManyNodes, TooManyOperators}
+use Rattle.std.specs.Prelude.{Result, Ok, Err}
+use Rattle.reader.specs.declared.reading.Unreadable.TheVariants.{TooLong, Bad, TooManyNodes, TooManyOperators}
 use Rattle.reader.specs.Limits.{text_limit, node_limit, operator_limit}
 use Rattle.reader.specs.Formula.{Formula, size, operators}
 use Rattle.reader.specs.Marks.{mark_kind, kind_in}
 use Rattle.reader.specs.Grammar.{Derives, operand, prefix, parens, lower, infixed, Reads}
 use Rattle.reader.specs.Place.{Begins, IsPlace}
-use Rattle.reader.specs.Reading.{IsGood, ReadingOf}
-use Rattle.reader.specs.inner.Scan.{scan_of}
-use Rattle.reader.specs.inner.Steps.{CanFollow, first_level, level_of}
+use Rattle.reader.specs.Reading.{Reading, IsGood, ReadingOf}
+use Rattle.reader.specs.inner.Scan.{start, scan_of}
+use Rattle.reader.specs.inner.Steps.{CanFollow}
 use Rattle.reader.proofs.FollowLaws.{follow_level, follow_down, follow_infix, follow_close}
 use Rattle.reader.proofs.ReadingLaws.{whole_alphabet, formula_of_lem, place_of}
 
@@ -67,10 +65,10 @@ same (parens {a = a} {b = b} {w = w} j j' x) (parens {a = a'} {b = b'} {w = v} k
 same (lower {l = l} x) (lower y) s t e c d = same x y s t e (follow_down l s c) (follow_down l t d)
 same (lower {l = l} x) (infixed {b = b} {u = u} {v = v} k y z eψ) s t e c d =
     let r = same x y s (b ∷ (v ++ t)) (e ∙ append_assoc u (b ∷ v) t) (follow_down l s c) (follow_infix l b (v ++ t) k) in
-    absurd (follow_level l s c (ap first_level r.0 ∙ ap level_of k))
+    absurd (follow_level l b s (v ++ t) c r.0 k)
 same (infixed {l = l} {b = b} {u = u} {v = v} k y z eφ) (lower x) s t e c d =
     let r = same y x (b ∷ (v ++ s)) t (sym (append_assoc u (b ∷ v) s) ∙ e) (follow_infix l b (v ++ s) k) (follow_down l t d) in
-    absurd (follow_level l t d (ap first_level (sym r.0) ∙ ap level_of k))
+    absurd (follow_level l b t (v ++ s) d (sym r.0) k)
 same (infixed {l = l} {b = a} {u = u} {v = v} {φ = α} {ψ = β} j x y eφ) (infixed {b = b} {u = u'} {v = v'} {φ = γ} {ψ = δ} k x' y' eψ) s t e c d =
     let r =
     same x x' (a ∷ (v ++ s)) (b ∷ (v' ++ t)) (sym (append_assoc u (a ∷ v) s) ∙ (e ∙ append_assoc u' (b ∷ v') t))
@@ -106,26 +104,26 @@ not_later i kind text j k p q = go (dec_le k j)
 -- ---- the reading of a formula
 
 answer : Formula → Reading
-answer φ = cond (ltb node_limit (size φ)) TooManyNodes (cond (ltb operator_limit (operators φ)) TooManyOperators (Good (size φ)))
+answer φ = cond (ltb node_limit (size φ)) (Err TooManyNodes) (cond (ltb operator_limit (operators φ)) (Err TooManyOperators) (Ok (size φ)))
 
 -- a reading is that of a formula of the text, or of a place
 abbrev Origin : ℕ → (ℕ → Kind) → List ℕ → Reading → Type 0
-Origin i kind text r = ((φ : Formula) × Reads i kind text φ × (r ≡ answer φ)) ⊎ ((k : ℕ) × IsPlace i kind text k × (r ≡ Bad k))
+Origin i kind text r = ((φ : Formula) × Reads i kind text φ × (r ≡ answer φ)) ⊎ ((k : ℕ) × IsPlace i kind text k × (r ≡ Err (Bad k)))
 
 -- or the text is too long
 abbrev Cause : ℕ → (ℕ → Kind) → List ℕ → Reading → Type 0
-Cause i kind text r = ((text_limit < length text) × (r ≡ TooLong)) ⊎ ((length text ≤ text_limit) × Origin i kind text r)
+Cause i kind text r = ((text_limit < length text) × (r ≡ Err TooLong)) ⊎ ((length text ≤ text_limit) × Origin i kind text r)
 
 cause : (i : ℕ) (kind : ℕ → Kind) (text : List ℕ) (r : Reading) → ReadingOf i kind text r → Cause i kind text r
 unfolding ReadingOf answer
-cause i kind text (Good n) a =
+cause i kind text (Ok n) a =
     let h : size a.0 ≤ node_limit = a.1.few_nodes in
     let g : operators a.0 ≤ operator_limit = a.1.few_operators in
-    inr (a.1.short, inl (a.0, a.1.reads, simp (le-ltb node_limit (size a.0) h, le-ltb operator_limit (operators a.0) g) (ap Good a.2)))
-cause i kind text TooLong a = inl (a, refl)
-cause i kind text (Bad k) a = inr (a.0, inr (k, a.1, refl))
-cause i kind text TooManyNodes a = inr (a.0, inl (a.1, a.2, simp (lt-ltb node_limit (size a.1) a.3)))
-cause i kind text TooManyOperators a =
+    inr (a.1.short, inl (a.0, a.1.reads, simp (le-ltb node_limit (size a.0) h, le-ltb operator_limit (operators a.0) g) (ap Ok a.2)))
+cause i kind text (Err TooLong) a = inl (a, refl)
+cause i kind text (Err (Bad k)) a = inr (a.0, inr (k, a.1, refl))
+cause i kind text (Err TooManyNodes) a = inr (a.0, inl (a.1, a.2, simp (lt-ltb node_limit (size a.1) a.3)))
+cause i kind text (Err TooManyOperators) a =
     inr (a.0, inl (a.1, a.2, simp (le-ltb node_limit (size a.1) a.3, lt-ltb operator_limit (operators a.1) a.4)))
 
 -- ---- the theorems
@@ -147,7 +145,7 @@ module _ (i o : ℕ) (t : Bool) (text : List ℕ) where
   never_both {φ} x p = p.ends φ x
 
   -- the number of a good reading is that of the nodes
-  pub good_formula : {φ : Formula} {n : ℕ} → IsGood i K text φ → ReadingOf i K text (Good n) → n ≡ size φ
+  pub good_formula : {φ : Formula} {n : ℕ} → IsGood i K text φ → ReadingOf i K text (Ok n) → n ≡ size φ
   unfolding ReadingOf
   good_formula g r = r.2 ∙ ap size (one_formula r.1.reads g.reads)
 
@@ -157,16 +155,16 @@ module _ (i o : ℕ) (t : Bool) (text : List ℕ) where
   reading_of s φ x = go (dec_le (size φ) node_limit) (dec_le (operators φ) operator_limit)
     where
       go : Dec (size φ ≤ node_limit) → Dec (operators φ ≤ operator_limit) → (r : Reading) × ReadingOf i K text r
-      go (yes h) (yes g) = (Good (size φ), (φ, record { short = s; reads = x; few_nodes = h; few_operators = g }, refl))
-      go (yes h) (no g) = (TooManyOperators, (s, φ, x, h, lt_of_not-le g))
-      go (no h) d = (TooManyNodes, (s, φ, x, lt_of_not-le h))
+      go (yes h) (yes g) = (Ok (size φ), (φ, record { short = s; reads = x; few_nodes = h; few_operators = g }, refl))
+      go (yes h) (no g) = (Err TooManyOperators, (s, φ, x, h, lt_of_not-le g))
+      go (no h) d = (Err TooManyNodes, (s, φ, x, lt_of_not-le h))
 
   -- a formula's or a place's reading is one
   one_origin : {r s : Reading} → Origin i K text r → Origin i K text s → r ≡ s
   one_origin (inl a) (inl b) = a.2 ∙ (ap answer (one_formula a.1 b.1) ∙ sym b.2)
   one_origin (inl a) (inr b) = absurd (never_both a.1 b.1)
   one_origin (inr a) (inl b) = absurd (never_both b.1 a.1)
-  one_origin (inr a) (inr b) = a.2 ∙ (ap Bad (one_place a.1 b.1) ∙ sym b.2)
+  one_origin (inr a) (inr b) = let f : (k : ℕ) → Reading = λ k. Err (Bad k) in a.2 ∙ (ap f (one_place a.1 b.1) ∙ sym b.2)
 
   -- a text has at most one reading
   pub one_reading : {r s : Reading} → ReadingOf i K text r → ReadingOf i K text s → r ≡ s
@@ -181,9 +179,9 @@ module _ (i o : ℕ) (t : Bool) (text : List ℕ) where
   -- and at least one
   pub some_reading : (r : Reading) × ReadingOf i K text r
   unfolding ReadingOf
-  some_reading = go (dec_le (length text) text_limit) (scan_of K text 0 true 0) refl
+  some_reading = go (dec_le (length text) text_limit) (scan_of K text 0 start) refl
     where
-      go : Dec (length text ≤ text_limit) → (x : Scanned) → scan_of K text 0 true 0 ≡ x → (r : Reading) × ReadingOf i K text r
-      go (no n) x e = (TooLong, lt_of_not-le n)
-      go (yes h) Whole e = let f = formula_of_lem i o t text e in reading_of h f.0 f.1
-      go (yes h) (Stopped k) e = (Bad k, (h, place_of i o t text k e))
+      go : Dec (length text ≤ text_limit) → (x : Result (Unit {0}) ℕ) → scan_of K text 0 start ≡ x → (r : Reading) × ReadingOf i K text r
+      go (no n) x e = (Err TooLong, lt_of_not-le n)
+      go (yes h) (Ok _) e = let f = formula_of_lem i o t text e in reading_of h f.0 f.1
+      go (yes h) (Err k) e = (Err (Bad k), (h, place_of i o t text k e))

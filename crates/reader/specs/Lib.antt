@@ -1,6 +1,7 @@
 pub mod Text
 pub mod Formula
 pub mod Marks
+pub mod Vocabulary
 pub mod Grammar
 pub mod Place
 pub mod Limits

@@ -4,7 +4,9 @@
 mod levels;
 pub mod limits;
 mod marks;
+pub mod nodes;
 pub mod reading;
 pub mod refusal;
 mod scan;
 mod size;
+pub mod vocabulary;

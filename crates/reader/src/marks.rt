@@ -1,12 +1,14 @@
 // What each byte of a text is.
-ghost use Rattle.std.specs.Prelude.{◌≡◌};
+ghost use Rattle.std.specs.Prelude.{◌≡◌, ℕ, [], ◌∷◌};
 ghost use Rattle.reader.specs.declared.marks.Kind.TheVariants.{Operand};
-ghost use Rattle.reader.specs.Marks.{among_of, mark_kind, is_temporal_mark, allowed_by, unary_of, binary_of};
-ghost use Rattle.reader.specs.inner.Nodes.{unary_code, binary_code};
-ghost use Rattle.reader.specs.inner.Words.{operand_code, operand_argument};
+ghost use Rattle.reader.specs.Marks.{mark_kind, is_temporal_mark, operand_of, unary_of, binary_of};
+ghost use Rattle.reader.specs.inner.Nodes.{unary_op, binary_op, code};
+
+use crate::nodes::{BinaryOp, Node, UnaryOp};
 
 // What a byte is in a text. An infix mark has its level: 1 for U and R, 2 for &, 3 for |, 4 for >.
-#[derive(Clone, Copy)]
+// The level is a number, no enum, since the grammar counts levels (specs/Grammar.antt).
+#[derive(Clone, Copy, PartialEq, Eq, Debug)]
 pub enum Kind {
     Operand,
     Prefix,
@@ -16,149 +18,70 @@ pub enum Kind {
     Other,
 }
 
-// Whether b is one of the bytes.
-fn among(b: u8, bytes: &[u8]) -> bool
-    ensures { result ≡ among_of b bytes.now }
-{
-    let mut k: usize = 0;
-    while k < bytes.len() {
-        if bytes[k] == b {
-            return true;
-        }
-        k += 1;
-    }
-    false
-}
-
 // The kind of a byte, every name and mark being in reach.
-#[tactic(auto, unfolding(crate::specs::Marks::mark_kind))]
+#[tactic(auto, unfolding(crate::specs::Marks::mark_kind, crate::specs::Marks::among_of))]
 pub(crate) fn mark_kind(b: u8) -> Kind
     ensures { result ≡ mark_kind b }
 {
-    if among(b, b"01abcdpqrs") {
-        return Kind::Operand;
+    match b {
+        b'0' | b'1' | b'a'..=b'd' | b'p'..=b's' => Kind::Operand,
+        b'!' | b'X' | b'N' | b'F' | b'G' => Kind::Prefix,
+        b'U' | b'R' => Kind::Infix(1),
+        b'&' => Kind::Infix(2),
+        b'|' => Kind::Infix(3),
+        b'>' => Kind::Infix(4),
+        b'(' => Kind::Open,
+        b')' => Kind::Close,
+        _ => Kind::Other,
     }
-    if among(b, b"!XNFG") {
-        return Kind::Prefix;
-    }
-    if among(b, b"UR") {
-        return Kind::Infix(1);
-    }
-    if b == b'&' {
-        return Kind::Infix(2);
-    }
-    if b == b'|' {
-        return Kind::Infix(3);
-    }
-    if b == b'>' {
-        return Kind::Infix(4);
-    }
-    if b == b'(' {
-        return Kind::Open;
-    }
-    if b == b')' {
-        return Kind::Close;
-    }
-    Kind::Other
 }
 
 // Whether a byte is a temporal mark.
-#[tactic(auto, unfolding(crate::specs::Marks::is_temporal_mark))]
+#[tactic(auto, unfolding(crate::specs::Marks::is_temporal_mark, crate::specs::Marks::among_of))]
 pub(crate) fn is_temporal_mark(b: u8) -> bool
     ensures { result ≡ is_temporal_mark b }
 {
-    among(b, b"XNFGUR")
+    matches!(b, b'X' | b'N' | b'F' | b'G' | b'U' | b'R')
 }
 
-// Whether a byte is in reach of a text with i inputs and o outputs.
-#[tactic(auto, unfolding(crate::specs::Marks::allowed_by))]
-pub(crate) fn allowed(b: u8, i: u8, o: u8, temporal: bool) -> bool
-    ensures { result ≡ allowed_by i o temporal b }
-{
-    if is_temporal_mark(b) {
-        return temporal;
-    }
-    if 97 <= b {
-        if b <= 100 {
-            return b - 97 < i;
-        }
-    }
-    if 112 <= b {
-        if b <= 115 {
-            return b - 112 < o;
-        }
-    }
-    true
-}
-
-// The node kind of a constant or a name.
-#[tactic(auto, unfolding(crate::specs::inner::Words::operand_code))]
-pub(crate) fn operand_kind(b: u8) -> u8
-    ensures { result ≡ operand_code b }
-{
-    if b == b'0' {
-        return 0;
-    }
-    if b == b'1' {
-        return 1;
-    }
-    2
-}
-
-// The node kind of a prefix mark.
+// The operator of a prefix mark: ! X N F, else G.
 #[tactic(auto, unfolding(crate::specs::Marks::unary_of))]
-pub(crate) fn prefix_kind(b: u8) -> u8
-    ensures { result ≡ unary_code (unary_of b) }
+pub(crate) fn prefix_op(b: u8) -> UnaryOp
+    ensures { result ≡ unary_op (unary_of b) }
 {
-    if b == b'!' {
-        return 3;
+    match b {
+        b'!' => UnaryOp::Not,
+        b'X' => UnaryOp::Next,
+        b'N' => UnaryOp::WeakNext,
+        b'F' => UnaryOp::Eventually,
+        _ => UnaryOp::Always,
     }
-    if b == b'X' {
-        return 4;
-    }
-    if b == b'N' {
-        return 5;
-    }
-    if b == b'F' {
-        return 6;
-    }
-    7
 }
 
-// The node kind of an infix mark.
+// The operator of an infix mark: U R & |, else >.
 #[tactic(auto, unfolding(crate::specs::Marks::binary_of))]
-pub(crate) fn infix_kind(b: u8) -> u8
-    ensures { result ≡ binary_code (binary_of b) }
+pub(crate) fn infix_op(b: u8) -> BinaryOp
+    ensures { result ≡ binary_op (binary_of b) }
 {
-    if b == b'U' {
-        return 8;
+    match b {
+        b'U' => BinaryOp::Until,
+        b'R' => BinaryOp::Release,
+        b'&' => BinaryOp::And,
+        b'|' => BinaryOp::Or,
+        _ => BinaryOp::Implies,
     }
-    if b == b'R' {
-        return 9;
-    }
-    if b == b'&' {
-        return 10;
-    }
-    if b == b'|' {
-        return 11;
-    }
-    12
 }
 
-// The argument of an operand's node: the letter bit of a name behind i inputs, the coordinate that is next for a constant.
-#[tactic(auto, unfolding(crate::specs::inner::Words::operand_argument))]
-pub(crate) fn operand_argument(b: u8, i: u8, coordinate: usize) -> usize
+// The node of an operand: a constant, or a name with its letter bit, outputs behind the i inputs.
+#[tactic(auto, unfolding(crate::specs::Marks::operand_of, crate::specs::inner::Nodes::code), using(crate::proofs::MarkLaws::operand_byte))]
+pub(crate) fn operand_node(b: u8, i: u8) -> Node
     requires { mark_kind b ≡ Operand }
-    ensures { result ≡ operand_argument i b coordinate }
+    ensures { (n k : ℕ) → code n k (operand_of i b) ≡ result ∷ [] }
 {
-    if b == b'0' {
-        return coordinate;
+    match b {
+        b'0' => Node::Constant(false),
+        b'1' => Node::Constant(true),
+        b'a'..=b'd' => Node::Name(usize::from(b - b'a')),
+        _ => Node::Name(usize::from(i) + usize::from(b - b'p')),
     }
-    if b == b'1' {
-        return coordinate;
-    }
-    if b <= b'd' {
-        return (b - b'a') as usize;
-    }
-    (i as usize) + ((b - b'p') as usize)
 }

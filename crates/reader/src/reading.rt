@@ -1,19 +1,20 @@
 // The reader's two calls, and the test of a text's length.
-ghost use Rattle.std.specs.Prelude.{◌≡◌, length};
-ghost use Rattle.reader.specs.Limits.{node_limit, too_long};
-ghost use Rattle.reader.specs.Marks.{kind_in};
+ghost use Rattle.std.specs.Prelude.{◌≡◌};
+ghost use Rattle.reader.specs.Limits.{too_long};
+ghost use Rattle.reader.specs.Vocabulary.{kind_of};
 ghost use Rattle.reader.specs.inner.Nodes.{Written};
 ghost use Rattle.reader.specs.Reading.{ReadingOf};
 
-use crate::levels::{Pos, read_implies, skip};
+use crate::levels::{Reader, TOP_LEVEL};
 use crate::limits::{NODE_LIMIT, OPERATOR_LIMIT, TEXT_LIMIT};
-use crate::scan::{Scanned, scan};
-use crate::size::count;
+use crate::nodes::Node;
+use crate::scan::scan;
+use crate::size::{node_count, operator_count};
+use crate::vocabulary::Vocabulary;
 
-// What the reader answers on a text: good, with the number of its nodes; too long, whatever it is; bad, with the place; or over another limit.
-#[derive(Clone, Copy)]
-pub enum Reading {
-    Good(usize),
+// Why a text has no formula within the limits: it is too long, whatever it is; bad, with the place; or over another limit.
+#[derive(Clone, Copy, PartialEq, Eq, Debug)]
+pub enum Unreadable {
     TooLong,
     Bad(usize),
     TooManyNodes,
@@ -27,58 +28,37 @@ pub fn too_long(text: &[u8]) -> bool
     TEXT_LIMIT < text.len()
 }
 
-// Reads a text with i inputs and o outputs, and writes no nodes; temporal marks may stand in it where `temporal` says so.
-pub fn check(text: &[u8], i: u8, o: u8, temporal: bool) -> Reading
-    ensures { ReadingOf i (kind_in i o temporal) text.now result }
+// Reads a text and gives the number of its nodes, but writes none.
+pub fn check(text: &[u8], vocabulary: Vocabulary) -> Result<usize, Unreadable>
+    ensures { ReadingOf vocabulary.inputs (kind_of vocabulary) text.now result }
 {
     if too_long(text) {
-        return Reading::TooLong;
+        return Err(Unreadable::TooLong);
     }
-    let found = scan(text, i, o, temporal);
-    match found {
-        Scanned::Stopped(k) => Reading::Bad(k),
-        Scanned::Whole => {
-            let n = count(text, false);
-            if NODE_LIMIT < n {
-                return Reading::TooManyNodes;
-            }
-            if OPERATOR_LIMIT < count(text, true) {
-                return Reading::TooManyOperators;
-            }
-            Reading::Good(n)
-        }
+    if let Err(place) = scan(text, vocabulary) {
+        return Err(Unreadable::Bad(place));
     }
+    let n = node_count(text);
+    if NODE_LIMIT < n {
+        return Err(Unreadable::TooManyNodes);
+    }
+    if OPERATOR_LIMIT < operator_count(text) {
+        return Err(Unreadable::TooManyOperators);
+    }
+    Ok(n)
 }
 
-// Reads a text as `check` does, and writes the nodes of a good one in front of `out`.
+// Reads a text as `check` does, and writes the nodes of a good one in front of `nodes`.
 #[tactic(auto, unfolding(crate::specs::inner::Nodes::Written))]
-fn read_into(text: &[u8], i: u8, o: u8, temporal: bool, out: &mut [usize]) -> Reading
-    requires { length out.old ≡ node_limit }
-    ensures reading { ReadingOf i (kind_in i o temporal) text.now result }
-    ensures nodes { Written i (kind_in i o temporal) text.now result out.old out.new }
+pub fn read(
+    text: &[u8],
+    vocabulary: Vocabulary,
+    nodes: &mut [Node; NODE_LIMIT],
+) -> Result<usize, Unreadable>
+    ensures reading { ReadingOf vocabulary.inputs (kind_of vocabulary) text.now result }
+    ensures nodes { Written vocabulary.inputs (kind_of vocabulary) text.now result nodes.old nodes.new }
 {
-    let found = check(text, i, o, temporal);
-    match found {
-        Reading::Good(n) => {
-            let start = Pos {
-                at: skip(text, 0),
-                nodes: 0,
-                coordinate: 1,
-            };
-            read_implies(text, i, start, out);
-            Reading::Good(n)
-        }
-        Reading::TooLong => Reading::TooLong,
-        Reading::Bad(k) => Reading::Bad(k),
-        Reading::TooManyNodes => Reading::TooManyNodes,
-        Reading::TooManyOperators => Reading::TooManyOperators,
-    }
-}
-
-// Reads a text as `check` does, and writes the nodes of a good one.
-pub fn read(text: &[u8], i: u8, o: u8, temporal: bool, nodes: &mut [usize; NODE_LIMIT]) -> Reading
-    ensures reading { ReadingOf i (kind_in i o temporal) text.now result }
-    ensures nodes { Written i (kind_in i o temporal) text.now result nodes.old nodes.new }
-{
-    read_into(text, i, o, temporal, nodes)
+    let n = check(text, vocabulary)?;
+    Reader::new(text, vocabulary.inputs).read(TOP_LEVEL, nodes);
+    Ok(n)
 }

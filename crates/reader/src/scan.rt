@@ -1,96 +1,60 @@
 // One pass over a text that finds the place at which it is bad.
-ghost use Rattle.std.specs.Prelude.{◌≡◌, true, ◌+◌, ◌<◌, ◌^◌};
-ghost use Rattle.reader.specs.Marks.{kind_in};
-ghost use Rattle.reader.specs.inner.Scan.{mark_step, step_of, scan_of};
+ghost use Rattle.std.specs.Prelude.{◌≡◌, ◌+◌, ◌<◌, ◌^◌};
+ghost use Rattle.reader.specs.Vocabulary.{kind_of};
+ghost use Rattle.reader.specs.inner.Scan.{start, mark_step, step_of, scan_of};
 
-use crate::marks::{Kind, allowed, mark_kind};
+use crate::marks::Kind;
+use crate::vocabulary::Vocabulary;
 
-// Where the pass is after a byte: whether an operand is due, and how many parentheses are open; or that the byte cannot stand there.
+// Where the pass is between two bytes: whether an operand is due, and how many parentheses are open.
 #[derive(Clone, Copy)]
-pub enum Step {
-    Next(bool, usize),
-    Stuck,
+pub struct ScanState {
+    pub operand_due: bool,
+    pub depth: usize,
 }
 
-// What the pass finds: a whole text, or the place at which a text is bad.
-#[derive(Clone, Copy)]
-pub enum Scanned {
-    Whole,
-    Stopped(usize),
-}
-
-// The step at a mark.
-fn mark_step(k: Kind, due: bool, depth: usize) -> Step
-    requires { depth + 1 < 2 ^ 64 }
-    ensures { result ≡ mark_step k due depth }
+// The state after a mark, or none where the mark cannot stand.
+fn mark_step(k: Kind, s: ScanState) -> Option<ScanState>
+    requires { s.depth + 1 < 2 ^ 64 }
+    ensures { result ≡ mark_step k s.operand_due s.depth }
 {
-    if due {
-        match k {
-            Kind::Operand => Step::Next(false, depth),
-            Kind::Prefix => Step::Next(true, depth),
-            Kind::Infix(_) => Step::Stuck,
-            Kind::Open => Step::Next(true, depth + 1),
-            Kind::Close => Step::Stuck,
-            Kind::Other => Step::Stuck,
-        }
-    } else {
-        match k {
-            Kind::Operand => Step::Stuck,
-            Kind::Prefix => Step::Stuck,
-            Kind::Infix(_) => Step::Next(true, depth),
-            Kind::Open => Step::Stuck,
-            Kind::Close => {
-                if depth == 0 {
-                    Step::Stuck
-                } else {
-                    Step::Next(false, depth - 1)
-                }
-            }
-            Kind::Other => Step::Stuck,
-        }
-    }
+    let (operand_due, depth) = match (k, s.operand_due) {
+        (Kind::Operand, true) => (false, s.depth),
+        (Kind::Prefix, true) | (Kind::Infix(_), false) => (true, s.depth),
+        (Kind::Open, true) => (true, s.depth + 1),
+        (Kind::Close, false) => (false, s.depth.checked_sub(1)?),
+        _ => return None,
+    };
+    Some(ScanState { operand_due, depth })
 }
 
-// The step at a byte.
-#[tactic(auto, unfolding(crate::specs::Marks::kind_in, crate::specs::inner::Scan::step_of))]
-fn advance(b: u8, i: u8, o: u8, temporal: bool, due: bool, depth: usize) -> Step
-    requires { depth + 1 < 2 ^ 64 }
-    ensures { result ≡ step_of (kind_in i o temporal) b due depth }
+// The state after a byte, or none where it cannot stand; a blank changes nothing.
+#[tactic(auto, unfolding(crate::specs::inner::Scan::step_of))]
+fn step(vocabulary: Vocabulary, b: u8, s: ScanState) -> Option<ScanState>
+    requires { s.depth + 1 < 2 ^ 64 }
+    ensures { result ≡ step_of (kind_of vocabulary) b s }
 {
     if b == b' ' {
-        return Step::Next(due, depth);
+        return Some(s);
     }
-    if allowed(b, i, o, temporal) {
-        return mark_step(mark_kind(b), due, depth);
-    }
-    Step::Stuck
+    mark_step(vocabulary.kind(b), s)
 }
 
 // Whether the text is one of the grammar, or the place at which it is bad.
-pub(crate) fn scan(text: &[u8], i: u8, o: u8, temporal: bool) -> Scanned
-    ensures { result ≡ scan_of (kind_in i o temporal) text.now 0 true 0 }
+#[tactic(auto, using(crate::proofs::ScanLaws::scan_turn, crate::proofs::ScanLaws::scan_end, crate::proofs::ScanLaws::step_depth))]
+pub(crate) fn scan(text: &[u8], vocabulary: Vocabulary) -> Result<(), usize>
+    ensures { result ≡ scan_of (kind_of vocabulary) text.now 0 start }
 {
-    let mut at: usize = 0;
-    let mut due = true;
-    let mut depth: usize = 0;
-    while at < text.len() {
-        match advance(text[at], i, o, temporal, due, depth) {
-            Step::Next(d, n) => {
-                due = d;
-                depth = n;
-            }
-            Step::Stuck => {
-                return Scanned::Stopped(at);
-            }
-        }
-        at += 1;
+    let mut state = ScanState {
+        operand_due: true,
+        depth: 0,
+    };
+    for (at, &b) in text.iter().enumerate() {
+        state = step(vocabulary, b, state).ok_or(at)?;
     }
-    if due {
-        return Scanned::Stopped(at);
-    }
-    if depth == 0 {
-        Scanned::Whole
+    if state.operand_due || state.depth != 0 {
+        Err(text.len())
     } else {
-        Scanned::Stopped(at)
+        Ok(())
     }
 }

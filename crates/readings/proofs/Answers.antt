@@ -2,26 +2,22 @@
 -- number on a row that holds, and no other refusal where no input meets the condition.
 -- Assumes nothing.
 use Prim.Native.Nat.{ℕ}
-use mathlib.Core.Path.{◌≡◌, refl, sym, ap, ap₂, ◌∙◌, subst, subst₂}
+use mathlib.Core.Path.{◌≡◌, refl, sym, ap₂, ◌∙◌, subst, subst₂}
 use mathlib.Core.Bool.{true, false}
 use mathlib.Core.List.{List, [], ◌∷◌}
-use native.Mathlib.Omega.{arith}
 use borrow.Author.Tests.{le-ltb}
-use Rattle.reader.specs.declared.reading.Reading.TheVariants.{Good}
-use Rattle.reader.specs.declared.refusal.Refusal.TheVariants.{Nothing, Unsatisfiable}
+use Rattle.std.specs.Prelude.{Some, None, Ok, Err}
+use Rattle.reader.specs.declared.refusal.Refusal.TheVariants.{Unsatisfiable}
 use Rattle.reader.specs.Formula.{Formula, size}
 use Rattle.reader.specs.Marks.{rule_kind, condition_kind}
 use Rattle.reader.specs.Reading.{ReadingOf, IsGood}
 use Rattle.reader.proofs.BoolLaws.{not_true_is_false}
-use Rattle.reader.proofs.RefusalLaws.{differs}
 use Rattle.reader.proofs.Unambiguous.{one_formula, one_reading}
 use Rattle.automaton.specs.Limits.{state_limit}
 use Rattle.automaton.specs.Trace.{Satisfies}
 use Rattle.automaton.specs.Automaton.{Automaton}
 use Rattle.automaton.specs.Condition.{mask_of, Judges}
-use Rattle.game.specs.declared.answer.Answer.{Answer}
-use Rattle.game.specs.declared.answer.Answer.TheVariants.{Refused}
-use Rattle.game.specs.Answer.{verdict_of}
+use Rattle.game.specs.Answer.{Answer, verdict_of}
 use Rattle.plays.specs.declared.mode.Mode.{Mode}
 use Rattle.plays.specs.Arena.{arena}
 use Rattle.plays.specs.Round.{RoundNumber}
@@ -34,7 +30,7 @@ use Rattle.readings.proofs.Readings.{readings}
 
 -- a good text's reading
 good_reading : (i : ℕ) (kind : ℕ → Rattle.reader.specs.declared.marks.Kind.Kind) (text : List ℕ) (φ : Formula) → IsGood i kind text φ
-    → ReadingOf i kind text (Good (size φ))
+    → ReadingOf i kind text (Ok (size φ))
 unfolding ReadingOf
 good_reading i kind text φ g = (φ, g, refl)
 
@@ -71,7 +67,7 @@ module _ (r : Row) (reading : RowHolds r) (old new : Buffers) (answer : Answer) 
       n.2 x.0 x.1 (subst (λ (κ : Formula). Satisfies κ (x.0 ∷ [])) (sym e) x.2))
 
   -- the call is not refused
-  served : solved.refusal ≡ Nothing
+  served : solved.refusal ≡ None
   unfolding rule_refusal
   served =
       let e = one_reading i o true r.rule solved.read (good_reading i (rule_kind i o) r.rule reading.formula reading.good) in
@@ -110,17 +106,17 @@ module _ (r : Row) (reading : RowHolds r) (old new : Buffers) (answer : Answer) 
       (reading.verdict new.transitions new.accepting h.mask h.automaton h.judges).round
 
   -- the answer is the row's, and the buffers hold what was promised
-  pub answered : (answer ≡ verdict_of r.count r.round) × Held r reading.formula reading.assumption old new r.round
+  pub answered : (answer ≡ Ok (verdict_of r.count r.round)) × Held r reading.formula reading.assumption old new r.round
   answered =
       let w = solved.served served in
       let h = held w.0 w.2 in
       let e = same_round w.0 h in
-      (w.1 ∙ ap₂ verdict_of same_count e, subst (λ (k : ℕ). Held r reading.formula reading.assumption old new k) e h)
+      (w.1 ∙ ap₂ (λ (n k : ℕ). Ok (verdict_of n k)) same_count e, subst (λ (k : ℕ). Held r reading.formula reading.assumption old new k) e h)
 
 -- an unsatisfiable condition is refused by 15
 module _ (mode : Mode) (i o : ℕ) (rule condition : List ℕ) (u : Unmet i o rule condition) (old new : Buffers) (answer : Answer)
     (solved : RuleSolved mode i o rule condition old new answer) where
-  first_is : solved.refusal ≡ Unsatisfiable
+  first_is : solved.refusal ≡ Some Unsatisfiable
   unfolding rule_refusal
   first_is =
       let e = one_reading i o true rule solved.read (good_reading i (rule_kind i o) rule u.formula u.good) in
@@ -128,10 +124,8 @@ module _ (mode : Mode) (i o : ℕ) (rule condition : List ℕ) (u : Unmet i o ru
       one_reading i 0 false condition solved.condition_read (good_reading i (condition_kind i) condition u.none.0 u.none.1) in
       solved.first ∙ rw (u.small, u.short, e, f, solved.none_satisfies.1 u.none)
 
-  refused_so : (answer ≡ Refused Unsatisfiable) × (new ≡ old)
-  refused_so =
-      let w = solved.refused (λ z. differs Unsatisfiable Nothing (λ e. omega arith) (sym first_is ∙ z)) in
-      (w.0 ∙ ap Refused first_is, w.1)
+  refused_so : (answer ≡ Err Unsatisfiable) × (new ≡ old)
+  refused_so = solved.refused Unsatisfiable first_is
 
 -- every row that holds is answered so
 line_answered : (l : Line) → LineHolds l → LineAnswered l

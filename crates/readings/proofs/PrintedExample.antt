@@ -21,8 +21,9 @@ use Rattle.automaton.specs.Condition.{mask_of}
 use Rattle.automaton.specs.Valuation.{value, coords, ends, present, end_vector, vectors}
 use Rattle.automaton.specs.State.{start, after, accepts}
 use Rattle.machine.specs.Discovery.{position, extend, target, look, discovered, states, number_of_states}
-use Rattle.game.specs.declared.answer.Answer.{Answer}
-use Rattle.game.specs.declared.answer.Answer.TheVariants.{Cannot}
+use Rattle.std.specs.Prelude.{Ok}
+use Rattle.game.specs.declared.answer.Outcome.TheVariants.{Cannot}
+use Rattle.game.specs.Answer.{Answer}
 use Rattle.plays.specs.declared.mode.Mode.TheVariants.{Fair}
 use Rattle.plays.specs.Arena.{Arena, next, goal, holds}
 use Rattle.game.specs.Tables.{SystemState, EnvironmentState}
@@ -136,7 +137,7 @@ module _ (old new : Buffers) (h : Held example φ κ old new 0) where
   output_0 x l = let b : get_or new.system (4 + x) 0 < 1 = goal_won.bytes x l in omega arith
 
   -- the listing of these buffers
-  lines : listing 1 new (Cannot 3) ≡ example_listing
+  lines : listing 1 new (Ok (Cannot 3)) ≡ example_listing
   unfolding example_listing state_lines verdict_lines digits decimal
   lines =
       let a = new.accepting in

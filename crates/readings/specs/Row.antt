@@ -4,7 +4,7 @@
 -- Each text has one formula (reader, proofs/Unambiguous: one_formula) and no rule has two round numbers (plays, proofs/RoundLaws: one_round), so that one
 -- excludes every other, and "can" excludes "cannot". The rows are checked together, as one theorem (specs/Rows.antt, proofs/Readings.antt).
 -- Assumes nothing.
-use Rattle.std.specs.Prelude.{ℕ, ◌^◌, ◌<◌, ◌≤◌, ◌≡◌, false, ◌||◌, List, [], ◌∷◌}
+use Rattle.std.specs.Prelude.{ℕ, ◌^◌, ◌<◌, ◌≤◌, ◌≡◌, false, ◌||◌, List, [], ◌∷◌, Ok, Err}
 use Rattle.reader.specs.Text.{Text}
 use Rattle.reader.specs.declared.refusal.Refusal.TheVariants.{Unsatisfiable}
 use Rattle.reader.specs.Limits.{too_long}
@@ -17,10 +17,8 @@ use Rattle.automaton.specs.Trace.{Satisfies}
 use Rattle.automaton.specs.Automaton.{Automaton}
 use Rattle.automaton.specs.Condition.{mask_of, Judges, NoneSatisfies}
 use Rattle.automaton.specs.Discovery.{number_of_states}
-use Rattle.game.specs.declared.answer.Answer.{Answer}
-use Rattle.game.specs.declared.answer.Answer.TheVariants.{Refused}
 use Rattle.plays.specs.declared.mode.Mode.{Mode}
-use Rattle.game.specs.Answer.{verdict_of}
+use Rattle.game.specs.Answer.{Answer, verdict_of}
 use Rattle.plays.specs.Arena.{Arena, arena}
 use Rattle.plays.specs.Strategy.{SystemWins, EnvironmentWins, Table}
 use Rattle.plays.specs.Round.{RoundNumber}
@@ -96,7 +94,7 @@ Answered r =
     (old new : Buffers) (answer : Answer)
     → short_buffers r.inputs r.outputs r.count old ≡ false
     → SolvedFor r old new answer
-    → answer ≡ verdict_of r.count r.round
+    → answer ≡ Ok (verdict_of r.count r.round)
 
 -- what the other kind of row says: i and o are in range, its texts are good and within all limits, and no input number satisfies the condition
 pub record Unmet (i o : ℕ) (rule condition : Text) : Type 0 where
@@ -115,7 +113,7 @@ LineHolds (unsatisfiable i o rule mode condition) = Unmet i o rule condition
 abbrev pub LineAnswered : Line → Type 0
 LineAnswered (decided r) = Answered r
 LineAnswered (unsatisfiable i o rule mode condition) =
-    (old new : Buffers) (answer : Answer) → RuleSolved mode i o rule condition old new answer → (answer ≡ Refused Unsatisfiable) × (new ≡ old)
+    (old new : Buffers) (answer : Answer) → RuleSolved mode i o rule condition old new answer → (answer ≡ Err Unsatisfiable) × (new ≡ old)
 
 -- P holds of every row of a list
 abbrev pub All : (Line → Type 0) → List Line → Type 0

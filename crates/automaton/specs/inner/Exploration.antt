@@ -1,11 +1,11 @@
 -- What the functions that explore the states of a formula hand back to each other and to the calls: the exploration of its machine, whose states are words
 -- in an array.
 -- Assumes nothing.
-use Rattle.std.specs.Prelude.{ℕ, ◌*◌, ◌≡◌, List, get_or}
+use Rattle.std.specs.Prelude.{ℕ, ◌*◌, ◌≡◌, List, length, get_or, Some, None, Result}
 use Rattle.machine.specs.inner.Exploration as machine
-use Rattle.reader.specs.declared.refusal.Refusal.TheVariants.{Nothing, StateCount}
+use Rattle.reader.specs.declared.refusal.Refusal.{Refusal}
+use Rattle.reader.specs.declared.refusal.Refusal.TheVariants.{StateCount}
 use Rattle.reader.specs.Formula.{Formula}
-use Rattle.automaton.specs.declared.construct.Construction.{Construction}
 use Rattle.automaton.specs.Limits.{state_limit}
 use Rattle.automaton.specs.State.{machine_of}
 use Rattle.automaton.specs.Discovery.{states, number_of_states}
@@ -17,17 +17,13 @@ use Rattle.automaton.specs.Construction.{count_refusal, construction_of}
 abbrev pub word_at : List ℕ → ℕ → ℕ
 word_at list i = get_or list i 0
 
--- after t steps the first n words of the list are the states discovered
-abbrev pub Listed : (φ : Formula) (L n t : ℕ) (list : List ℕ) → Type 0
-Listed φ L n t list = machine.Listed (machine_of φ) L n t (word_at list)
+-- after t steps the list holds the states discovered
+abbrev pub Listed : (φ : Formula) (L t : ℕ) (list : List ℕ) → Type 0
+Listed φ L t list = machine.Listed (machine_of φ) L (length list) t (word_at list)
 
--- there are r states, or more than the limit where r is one more than that; the list holds them
-abbrev pub AllListed : (φ : Formula) (L r : ℕ) (list : List ℕ) → Type 0
-AllListed φ L r list = machine.AllListed (machine_of φ) L state_limit r (word_at list)
-
--- after every letter of state s: r states are listed, or there are more than the limit where r is one more than that
-abbrev pub StateListed : (φ : Formula) (L s r : ℕ) (list : List ℕ) → Type 0
-StateListed φ L s r list = machine.StateListed (machine_of φ) L state_limit s r (word_at list)
+-- the list holds all states, which are at most the limit
+abbrev pub AllListed : (φ : Formula) (L : ℕ) (list : List ℕ) → Type 0
+AllListed φ L list = machine.AllListed (machine_of φ) L state_limit (length list) (word_at list)
 
 -- the first t transitions are the numbers of the states to which they lead
 abbrev pub Filled : (φ : Formula) (L : ℕ) (transitions : List ℕ) (t : ℕ) → Type 0
@@ -40,9 +36,9 @@ pub record Written (φ : Formula) (L n : ℕ) (transitions accepting transitions
   pub accepting_kept : Kept n accepting accepting'
 
 -- what `build` hands back, with the refusal by the number of states
-pub record BuiltAutomaton (φ : Formula) (L room : ℕ) (transitions accepting transitions' accepting' : List ℕ) (r : Construction) : Type 0 where
+pub record BuiltAutomaton (φ : Formula) (L room : ℕ) (transitions accepting transitions' accepting' : List ℕ) (r : Result ℕ Refusal) : Type 0 where
   pub answer : r ≡ construction_of (count_refusal L room transitions accepting (number_of_states φ L)) (number_of_states φ L)
-  pub written : count_refusal L room transitions accepting (number_of_states φ L) ≡ Nothing
+  pub written : count_refusal L room transitions accepting (number_of_states φ L) ≡ None
       → Written φ L (number_of_states φ L) transitions accepting transitions' accepting'
-  pub many : count_refusal L room transitions accepting (number_of_states φ L) ≡ StateCount → TooManyStates φ L
-  pub untouched : (count_refusal L room transitions accepting (number_of_states φ L) ≡ Nothing → ⊥) → (transitions' ≡ transitions) × (accepting' ≡ accepting)
+  pub many : count_refusal L room transitions accepting (number_of_states φ L) ≡ Some StateCount → TooManyStates φ L
+  pub untouched : (count_refusal L room transitions accepting (number_of_states φ L) ≡ None → ⊥) → (transitions' ≡ transitions) × (accepting' ≡ accepting)

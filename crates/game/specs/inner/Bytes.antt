@@ -1,10 +1,10 @@
 -- The bytes of the two tables as the players' ranks allow them: what the functions that fill the tables promise each other.
 -- Assumes nothing.
-use Rattle.std.specs.Prelude.{◌≡◌, ℕ, ◌-◌, ◌*◌, ◌/◌, ◌%◌, ◌<◌, ◌≤◌, Bool, true, false, not, List, slice_index, slice_index_or}
+use Rattle.std.specs.Prelude.{◌≡◌, ℕ, ◌-◌, ◌*◌, ◌/◌, ◌%◌, ◌<◌, Bool, true, false, cond, ◌&&◌, ◌||◌, List, ◌==◌, nat_le, slice_index, slice_index_or, Option, Some, None}
 use Rattle.automaton.specs.Buffer.{Kept}
-use Rattle.plays.specs.Arena.{State, Input, Output, Arena, next}
+use Rattle.plays.specs.Arena.{State, Input, Output, Arena, next, goal}
 use Rattle.plays.specs.Entry.{Lowest}
-use Rattle.plays.specs.inner.Rank.{cap, Safe, AllowedOutput, AllowedInput}
+use Rattle.plays.specs.inner.Rank.{cap, AllowedOutput, AllowedInput}
 use Rattle.game.specs.Tables.{no_move}
 
 -- the largest rank that is allowed after a step from a state of rank `own`: a lower one at a judged input, and else the cap
@@ -12,45 +12,32 @@ abbrev pub limit_of : (steady : Bool) (most : ℕ) (judged : Bool) (own : ℕ) �
 limit_of steady most true own = own - 1
 limit_of steady most false own = cap steady most own
 
--- state t has a rank, and one that is at most `limit`
-abbrev pub Below : List ℕ → ℕ → ℕ → Type 0
-Below r limit t = (0 < slice_index r t) × (slice_index r t ≤ limit)
+-- whether state t has a rank, and one that is at most `limit`
+abbrev pub is_below : List ℕ → ℕ → State → Bool
+is_below r limit t = nat_le 1 (slice_index r t) && nat_le (slice_index r t) limit
 
--- b says whether it has
-pub record IsBelow (r : List ℕ) (limit t : ℕ) (b : Bool) : Type 0 where
-  pub inside : b ≡ true → Below r limit t
-  pub outside : b ≡ false → Below r limit t → ⊥
+-- the rank of state s, if it has one
+abbrev pub rank_at : List ℕ → State → Option ℕ
+rank_at r s = cond (slice_index r s == 0) None (Some (slice_index r s))
 
--- output y is good for a player by its ranks: the state that it enters is safe for the player, with a rank that is at most `limit`
-abbrev pub GoodOutput : (G : Arena) (player : Bool) (r : List ℕ) (limit : ℕ) (s : State) (x : Input) (y : Output) → Type 0
-GoodOutput G player r limit s x y = Safe G player (next G s x y) (Below r limit (next G s x y))
+-- whether a search stops at output y: the step enters a goal, or a state with the property p
+abbrev pub stops_at : (G : Arena) (p : State → Bool) (s : State) (x : Input) (y : Output) → Bool
+stops_at G p s x y = goal G (next G s x y) || p (next G s x y)
 
--- it is an output, and good for the system
-abbrev pub LegalOutput : (G : Arena) (r : List ℕ) (limit : ℕ) (s : State) (x : Input) (y : Output) → Type 0
-LegalOutput G r limit s x y = (y < G.outputs) × GoodOutput G true r limit s x y
+-- the first output at which a search stops, if there is one
+abbrev pub FirstStop : (G : Arena) (p : State → Bool) (s : State) (x : Input) → Option ℕ → Type 0
+FirstStop G p s x (Some k) = (k < G.outputs) × ((y : ℕ) → y < k → stops_at G p s x y ≡ false) × (stops_at G p s x k ≡ true)
+FirstStop G p s x None = (y : ℕ) → y < G.outputs → stops_at G p s x y ≡ false
 
--- some output is good for the system, and every output is good for the environment
-abbrev pub SomeOutput : (G : Arena) (r : List ℕ) (limit : ℕ) (s : State) (x : Input) → Type 0
-SomeOutput G r limit s x = (y : ℕ) × LegalOutput G r limit s x y
+-- the lowest move that ranks allow on state s, if the state has a rank
+abbrev pub Move : (r : List ℕ) (s : State) (Allowed : ℕ → Type 0) → Option ℕ → Type 0
+Move r s Allowed (Some k) = (0 < slice_index r s) × Lowest Allowed k
+Move r s Allowed None = slice_index_or r s 0 ≡ 0
 
-abbrev pub EveryOutput : (G : Arena) (r : List ℕ) (limit : ℕ) (s : State) (x : Input) → Type 0
-EveryOutput G r limit s x = (y : ℕ) → y < G.outputs → GoodOutput G false r limit s x y
-
--- A, or not A
-abbrev pub Claim : Bool → Type 0 → Type 0
-Claim true A = A
-Claim false A = A → ⊥
-
--- k is where a player's search ends: the first output that is good for the system, the first that is not for the environment, or the number of outputs
-pub record FirstStop (G : Arena) (player : Bool) (r : List ℕ) (limit s x k : ℕ) : Type 0 where
-  pub within : k ≤ G.outputs
-  pub earlier : (y : ℕ) → y < k → Claim (not player) (GoodOutput G player r limit s x y)
-  pub here : k < G.outputs → Claim player (GoodOutput G player r limit s x k)
-
--- b says whether every output is good for the environment
-pub record IsSafe (G : Arena) (r : List ℕ) (limit s x : ℕ) (b : Bool) : Type 0 where
-  pub safe : b ≡ true → EveryOutput G r limit s x
-  pub unsafe : b ≡ false → EveryOutput G r limit s x → ⊥
+-- the byte of a move
+abbrev pub move_byte : Option ℕ → ℕ
+move_byte (Some k) = k
+move_byte None = no_move
 
 -- the system's byte for state s and input x: the lowest output that the ranks allow
 pub record SystemByte (fair : Bool) (G : Arena) (most : ℕ) (r : List ℕ) (s x b : ℕ) : Type 0 where

@@ -1,21 +1,21 @@
--- The sizes that the calls' own functions may rely on once i, o and n are in range.
+-- What the first two tests of a given automaton come to.
 -- Assumes nothing.
-use Rattle.std.specs.Prelude.{ℕ, ◌^◌, ◌<◌, ◌≤◌, Bool}
-use Rattle.automaton.specs.Limits.{number_limit, state_limit}
-use Rattle.game.specs.declared.arena.Sizes.{Sizes}
-use Rattle.game.specs.declared.arena.Game.{Game}
+use Rattle.std.specs.Prelude.{◌≡◌, ℕ, true, false, ◌⊎◌, List, Result, Ok, Err}
+use Rattle.reader.specs.declared.refusal.Refusal.{Refusal}
+use Rattle.reader.specs.declared.refusal.Refusal.TheVariants.{Alphabet, GivenCount}
+use Rattle.automaton.specs.Alphabet.{bad_alphabet}
+use Rattle.plays.specs.Arena.{Arena, arena}
+use Rattle.game.specs.declared.arena.Automaton.{Automaton}
+use Rattle.game.specs.inner.Valid.{arena_from}
+use Rattle.game.specs.Given.{bad_count}
 
--- the sizes of n states, i inputs and o outputs
-abbrev pub sizes_of : ℕ → ℕ → ℕ → Sizes
-sizes_of n i o = record { states = n; inputs = 2 ^ i; outputs = 2 ^ o }
+-- the arena of an automaton with a mask
+abbrev pub arena_at : Automaton → (mask : ℕ) → Arena
+arena_at a mask = arena_from a.states a.inputs a.outputs a.transitions.now a.accepting.now mask
 
--- the game of n states, i inputs and o outputs
-abbrev pub game_of : (fair : Bool) (mask n i o : ℕ) → Game
-game_of fair mask n i o = record { fair = fair; mask = mask; states = n; inputs = 2 ^ i; outputs = 2 ^ o }
-
--- sizes in range
-pub record InRange (sizes : Sizes) : Type 0 where
-  pub states_fit : sizes.states ≤ state_limit
-  pub inputs_fit : sizes.inputs ≤ number_limit
-  pub outputs_fit : sizes.outputs ≤ number_limit
-  pub inputs_some : 0 < sizes.inputs
+-- the numbers are in range, and the automaton is that of the numbers and the two buffers; or the first that is not is refused
+abbrev pub Sized : (i o n : ℕ) (transitions accepting : List ℕ) → Result Automaton Refusal → Type 0
+Sized i o n transitions accepting (Ok a) =
+    (bad_alphabet i o ≡ false) × (bad_count n ≡ false) × ((mask : ℕ) → arena_at a mask ≡ arena i o n transitions accepting mask)
+Sized i o n transitions accepting (Err x) =
+    ((bad_alphabet i o ≡ true) × (x ≡ Alphabet)) ⊎ ((bad_alphabet i o ≡ false) × (bad_count n ≡ true) × (x ≡ GivenCount))

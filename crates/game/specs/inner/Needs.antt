@@ -6,6 +6,7 @@ use Rattle.automaton.specs.Limits.{state_limit}
 use Rattle.plays.specs.Arena.{State, Arena}
 use Rattle.plays.specs.inner.Rank.{Forces, Falls, Ranked}
 use Rattle.plays.specs.inner.Beaten.{Beaten}
+use Rattle.plays.specs.inner.Exact.{ExactNeeds}
 
 -- the needs to begin with: 1 for each state below n that has a rank
 pub record Marked (n : ℕ) (system needs : List ℕ) : Type 0 where
@@ -65,6 +66,12 @@ pub record Settled (G : Arena) (start : State) (l : ℕ) (old needs : List ℕ) 
 -- the system is beaten on every state without a rank, whatever the limit and the budget
 abbrev pub UnrankedBeaten : (G : Arena) (system : List ℕ) → Type 0
 UnrankedBeaten G system = (s : ℕ) → s < G.states → slice_index system s ≡ 0 → (m k : ℕ) → Beaten false G m s k
+
+-- the system's ranks: its needs with n, none above n, and where a state has none the system is beaten on it
+pub record SystemNeeds (G : Arena) (system : List ℕ) : Type 0 where
+  pub exact : ExactNeeds G G.states system
+  pub small : (t : ℕ) → slice_index system t ≤ G.states
+  pub unranked_beaten : UnrankedBeaten G system
 
 -- needs with the least limit m with which the start keeps one, those above m left out
 pub record Narrowed (G : Arena) (start : State) (system needs : List ℕ) (m : ℕ) : Type 0 where

@@ -1,6 +1,6 @@
 -- The test on one step, and the first input that no output serves.
 -- Assumes nothing.
-use Rattle.std.specs.Prelude.{◌≡◌, ℕ, ◌<◌, ◌≤◌, Bool, true, false, cond, not, ◌&&◌, ◌||◌, List, ◌==◌, nat_lt, slice_index}
+use Rattle.std.specs.Prelude.{◌≡◌, ℕ, ◌<◌, Bool, true, false, cond, not, ◌&&◌, ◌||◌, List, Option, Some, None, ◌==◌, nat_lt, slice_index}
 use Rattle.std.specs.Bool.{beq}
 use Rattle.plays.specs.Arena.{State, Input, Output, Arena, next, goal, holds}
 
@@ -21,8 +21,24 @@ serving G won safe s x y = serving_at G won safe x (next G s x y)
 abbrev pub safe_below : (inside : Bool) (limit : ℕ) (r : List ℕ) (t : State) → Bool
 safe_below inside limit r t = beq (ranked_below limit r t) inside
 
--- r is the first input that no output serves, or the number of inputs
-pub record FirstUnserved (G : Arena) (won safe : ℕ → Bool) (s r : ℕ) : Type 0 where
-  pub within : r ≤ G.inputs
-  pub served : (x : ℕ) → x < r → (y : ℕ) × (y < G.outputs) × (serving G won safe s x y ≡ true)
-  pub unserved : r < G.inputs → (y : ℕ) → y < G.outputs → serving G won safe s r y ≡ false
+-- some output serves input x
+abbrev pub IsServed : (G : Arena) (won safe : State → Bool) (s : State) (x : Input) → Type 0
+IsServed G won safe s x = (y : ℕ) × (y < G.outputs) × (serving G won safe s x y ≡ true)
+
+-- no output serves input x
+abbrev pub IsUnserved : (G : Arena) (won safe : State → Bool) (s : State) (x : Input) → Type 0
+IsUnserved G won safe s x = (y : ℕ) → y < G.outputs → serving G won safe s x y ≡ false
+
+-- some output serves each input
+abbrev pub AllServed : (G : Arena) (won safe : State → Bool) (s : State) → Type 0
+AllServed G won safe s = (x : ℕ) → x < G.inputs → IsServed G won safe s x
+
+-- r is an output that serves input x, or none where there is none
+abbrev pub Served : (G : Arena) (won safe : State → Bool) (s : State) (x : Input) (r : Option ℕ) → Type 0
+Served G won safe s x (Some y) = (y < G.outputs) × (serving G won safe s x y ≡ true)
+Served G won safe s x None = IsUnserved G won safe s x
+
+-- r is the first input that no output serves, or none where there is none
+abbrev pub FirstUnserved : (G : Arena) (won safe : State → Bool) (s : State) (r : Option ℕ) → Type 0
+FirstUnserved G won safe s (Some x) = (x < G.inputs) × IsUnserved G won safe s x × ((k : ℕ) → k < x → IsServed G won safe s k)
+FirstUnserved G won safe s None = AllServed G won safe s

@@ -3,10 +3,11 @@
 use Rattle.std.specs.Prelude.{ℕ, ◌^◌, List, []}
 use Rattle.reader.specs.Text.{Text}
 use Rattle.plays.specs.Strategy.{Table}
-use Rattle.game.specs.declared.answer.Answer.{Answer}
+use Rattle.game.specs.Answer.{Answer}
 use Rattle.game.specs.Rule.{buffers}
 use Rattle.listing.specs.Listing.{listing}
 
+-- the listing of an answer, which has nothing of the transitions
 abbrev pub listing_of : (i : ℕ) (accepting : List ℕ) (system environment : Table) (r : Answer) → Text
 listing_of i accepting system environment r = listing i (buffers [] accepting system environment) r
 

@@ -1,6 +1,7 @@
 -- Writing bytes into an output, from a position on.
 -- Assumes nothing.
 use Rattle.std.specs.Prelude.{ℕ, suc, ◌≡◌, cond, List, [], ◌∷◌, ltb, length, set}
+use Rattle.listing.specs.declared.write.Output.{Output}
 
 -- the position after one byte more, in an output of that size: where it is full, the position stays
 abbrev pub next : ℕ → ℕ → ℕ
@@ -21,7 +22,7 @@ pub record Writes (out : List ℕ) (at : ℕ) (bytes out' : List ℕ) (r : ℕ) 
   pub output : out' ≡ written out at bytes
   pub end : r ≡ position (length out) at bytes
 
--- to write the rest from here is to write the whole from there
-pub record Remains (out₀ : List ℕ) (at₀ : ℕ) (whole out : List ℕ) (at : ℕ) (rest : List ℕ) : Type 0 where
-  pub output : written out at rest ≡ written out₀ at₀ whole
-  pub end : position (length out) at rest ≡ position (length out₀) at₀ whole
+-- the bytes were written on an output, which lends what it lent before
+pub record Puts (old : Output) (bytes : List ℕ) (new : Output) : Type 0 where
+  pub same_reference : new.bytes.ghost_name ≡ old.bytes.ghost_name
+  pub writes : Writes old.bytes.now old.end bytes new.bytes.now new.end

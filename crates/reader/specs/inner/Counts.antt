@@ -1,6 +1,6 @@
 -- The nodes and the temporal operators of a text, counted by its bytes.
 -- Assumes nothing.
-use Rattle.std.specs.Prelude.{ℕ, ◌+◌, Bool, cond, [], ◌∷◌}
+use Rattle.std.specs.Prelude.{ℕ, Bool, true, false, cond, count_by}
 use Rattle.reader.specs.declared.marks.Kind.{Kind}
 use Rattle.reader.specs.declared.marks.Kind.TheVariants.{Operand, Prefix, Infix, Open, Close, Other}
 use Rattle.reader.specs.Text.{Text}
@@ -10,16 +10,19 @@ use Rattle.reader.specs.Marks.{mark_kind, is_temporal_mark}
 unfoldable pub tick : ℕ → ℕ
 tick b = cond (is_temporal_mark b) 1 0
 
--- what a byte adds to the count of the temporal operators (t true) or of the nodes (t false), by its kind; x is 1 for a temporal mark
-abbrev pub weight_of : (t : Bool) (x : ℕ) → Kind → ℕ
-weight_of t x Operand = cond t 0 1
-weight_of t x Prefix = cond t x 1
-weight_of t x (Infix l) = cond t x 1
-weight_of t x Open = 0
-weight_of t x Close = 0
-weight_of t x Other = 0
+-- a mark of this kind writes a node
+abbrev pub writes_node : Kind → Bool
+writes_node Operand = true
+writes_node Prefix = true
+writes_node (Infix l) = true
+writes_node Open = false
+writes_node Close = false
+writes_node Other = false
 
--- the count of a text
-unfoldable pub count_of : (t : Bool) → Text → ℕ
-count_of t [] = 0
-count_of t (b ∷ s) = weight_of t (tick b) (mark_kind b) + count_of t s
+-- the nodes of a text
+abbrev pub node_count : Text → ℕ
+node_count text = count_by (λ b. writes_node (mark_kind b)) text
+
+-- the temporal operators of a text
+abbrev pub operator_count : Text → ℕ
+operator_count text = count_by is_temporal_mark text

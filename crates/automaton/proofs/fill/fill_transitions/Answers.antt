@@ -1,11 +1,8 @@
--- `automaton::fill::fill_transitions` meets its contract. The invariant: the rows of the first s states are written, and nothing beyond them.
--- The measure is the number of states that are left.
--- Assumes nothing.
+-- `automaton::fill::fill_transitions` meets its contract. Assumes nothing.
 use mathlib.Core.Path.{refl}
-use native.Mathlib.Omega.{arith}
 use Rattle.automaton.proofs.FillingLaws.{filled_none}
 use Rattle.automaton.proofs.fill.fill_transitions.Goals as goal
 
 pub loop-s-init : goal.loop-s-init
 loop-s-init c =
-    (omega arith, record { size = refl; beyond = λ u l. refl }, λ φ tab e all. filled_none φ _ _)
+    record { kept = record { size = refl; beyond = λ u l. refl }; filled = λ φ t all. filled_none φ _ _ }

@@ -1,6 +1,6 @@
 -- `automaton::fill::mark_states` meets its contract. The invariant: the flags below s are right, and those from s on are as they were.
--- The measure is what is left of n. Assumes nothing.
-use Prim.Native.Nat.{ℕ, ◌-◌, ◌≤◌, ◌<◌}
+-- Assumes nothing.
+use Prim.Native.Nat.{ℕ, ◌<◌}
 use mathlib.Core.Path.{◌≡◌}
 use lib.ListN.{get_or}
 use Rattle.automaton.specs.Bits.{bit, one}
@@ -8,7 +8,8 @@ use Rattle.automaton.specs.Buffer.{Kept}
 use Rattle.automaton.proofs.fill.mark_states.Given as goal
 
 abbrev pub invariant-loop-s : goal.invariant-loop-s
-invariant-loop-s l = (l.s ≤ l.n) × Kept l.s l.initial.accepting l.accepting × ((u : ℕ) → u < l.s → get_or l.accepting u 0 ≡ one (bit (get_or l.list u 0) l.end))
-
-abbrev pub decreases-loop-s : goal.decreases-loop-s
-decreases-loop-s l = l.n - l.s
+invariant-loop-s l =
+    record {
+      kept : Kept l.s l.initial.accepting l.accepting;
+      marked : (u : ℕ) → u < l.s → get_or l.accepting u 0 ≡ one (bit (get_or l.states u 0) l.end);
+    }

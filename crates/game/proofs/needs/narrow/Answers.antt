@@ -7,12 +7,12 @@ use Rattle.game.proofs.needs.narrow.Goals as goal
 
 pub loop-low-init : goal.loop-low-init
 loop-low-init c =
-    (search_starts c.requires.start_lt_states.0 c.requires.valid.moving.states_fit c.requires.exact_needs c.requires.by_index c.requires.unranked_beaten c.requires.start_lt_states.1 c.first_needs-needs.ensures.marked, c.first_needs-needs.ensures.result_len, c.requires.system_len)
+    search_starts c.requires.start_lt_states.0 c.args.g.now.valid.moving.states_fit c.requires.of_system.exact c.requires.of_system.small c.requires.of_system.unranked_beaten c.requires.start_lt_states.1 c.first_needs.ensures
 
-pub settled-next-requires : goal.settled-next-requires
-settled-next-requires c =
-    record { valid = c.requires.valid; bounds = bounds_less (omega (arith, c.between-limit.ensures.1)) c.loop-low.invariant.0.bounds; limit_le_state_limit = (omega (arith, c.between-limit.ensures.1, c.loop-low.invariant.0.few, c.requires.valid.moving.states_fit), c.requires.start_lt_states.0, c.loop-low.invariant.1) }
+pub settle-requires-clause-bounds : goal.settle-requires-clause-bounds
+settle-requires-clause-bounds c =
+    bounds_less (omega (arith, c.between.ensures.1)) c.loop-low.invariant.bounds
 
 pub returns : goal.returns
 returns c =
-    record { narrowed = search_ends c.loop-low.invariant.0 (omega arith); ranks_len = c.loop-low.invariant.2 }
+    search_ends c.loop-low.invariant (omega arith)

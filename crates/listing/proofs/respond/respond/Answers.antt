@@ -5,6 +5,4 @@ use Rattle.listing.proofs.ResponseLaws.{responded}
 use Rattle.listing.proofs.respond.respond.Goals as goal
 
 pub returns : goal.returns
-returns c =
-    responded c.args.input.now c.args.got _ c.args.output.now _ _ (search rules) (search rules) c.least-size.ensures
-    c.list.ensures
+returns c = responded c.args.input.now c.args.got _ c.args.output.now _ _ (search rules) (search rules) c.min.ensures c.list.ensures

@@ -1,10 +1,6 @@
--- `reader::levels::skip` meets its contract. The invariant: from `k` on the text has the marks that it has from `at` on.
--- The measure is the number of bytes left. Assumes nothing.
-use mathlib.Core.Path.{◌∙◌}
-use native.Mathlib.Omega.{arith}
-use Rattle.reader.proofs.TextLaws.{blank_at}
+-- `reader::levels::skip` meets its contract: past the blanks that the rest of the text begins with there is none. Assumes nothing.
+use Rattle.reader.proofs.TextLaws.{past_blanks}
 use Rattle.reader.proofs.levels.skip.Goals as goal
 
-pub loop-k-preserved : goal.loop-k-preserved
-loop-k-preserved c =
-    (omega arith, omega arith, blank_at c.args.text.now c.loop-k.k (omega arith) c.if-text-k-ne32.false ∙ c.loop-k.invariant.2)
+pub returns : goal.returns
+returns c = past_blanks _ _ _ c.requires c.leading_blanks.ensures

@@ -1,8 +1,0 @@
--- `listing::render::put_field` meets its contract: the blank, then the number.
--- Assumes nothing.
-use Rattle.listing.proofs.WritingLaws.{joined}
-use Rattle.listing.proofs.render.put_field.Goals as goal
-
-pub returns : goal.returns
-returns c =
-    joined c.put-end.ensures c.put_decimal.ensures

@@ -22,7 +22,8 @@ use reader::limits::NODE_LIMIT;
 use reader::nodes::Node;
 use reader::refusal::{Refusal, Subject};
 
-// Whether there is no room for n states, or a buffer is too short for them. The letters are bounded by clauses in this file: before there is a table no value has them.
+// Whether there is no room for n states, or a buffer is too short for them. The letters are bounded by clauses in this file: before there is a table no value
+// has them.
 fn short_automaton(
     letters: usize,
     room: usize,
@@ -101,8 +102,8 @@ fn build_nodes(
     )
 }
 
-// Builds the automaton of a rule in the two buffers and gives the number of its states, or refuses. `room` is the number of states for which the caller has room
-// elsewhere.
+// Builds the automaton of a rule in the two buffers and gives the number of its states, or refuses. `room` is the number of states for which the caller has
+// room elsewhere.
 pub fn construct(
     i: usize,
     o: usize,

@@ -11,8 +11,8 @@ use crate::bits::test_bit;
 use crate::states::States;
 use crate::twins::TwinTable;
 
-// Writes the transitions of state s: the twin's for a letter that has an earlier one, and else where the state after the letter stands. A loop of its own beside
-// `list_letters`, which adds states and may stop: what they share is `TwinTable::twin`.
+// Writes the transitions of state s: the twin's for a letter that has an earlier one, and else where the state after the letter stands. A loop of its own
+// beside `list_letters`, which adds states and may stop: what they share is `TwinTable::twin`.
 fn fill_state(twins: TwinTable, states: &States, s: usize, transitions: &mut [u8])
     requires { (s < length states.now) × (length states.now * twins.table.letters ≤ length transitions.old) }
     ensures filled { (φ : Formula) → TableOf φ twins.entry.table → AllListed φ twins.entry.table.letters states.now

@@ -1,5 +1,6 @@
 // The automaton of a rule, the mask of a condition, and the trial of a rule on a list of letters.
-// A number is turned by `as` where std has no `From`, between usize and u64, or where a byte or the mask is proved to hold it: `try_from` would have a case that never is.
+// A number is turned by `as` where std has no `From`, between usize and u64, or where a byte or the mask is proved to hold it: `try_from` would have a case
+// that never is.
 #![tactic(auto)]
 
 pub mod alphabet;

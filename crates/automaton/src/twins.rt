@@ -7,7 +7,8 @@ use crate::bits::WORD_BITS;
 use crate::limits::{ENTRY_LIMIT, LETTER_LIMIT, SLOT_COUNT};
 use crate::table::Table;
 
-// The table with each letter's twin: an earlier letter with the same row, or the letter itself, which is its own twin: so every letter has one, and no `Option` is taken apart.
+// The table with each letter's twin: an earlier letter with the same row, or the letter itself, which is its own twin: so every letter has one, and no `Option`
+// is taken apart.
 #[derive(Clone, Copy)]
 pub(crate) struct TwinTable<'a, 'b> {
     pub(crate) table: Table<'a>,

@@ -4,28 +4,32 @@ use Rattle.std.proofs.Common.{◌≡◌, ℕ, ◌*◌, ◌^◌, ◌<◌, ◌≤�
 use Rattle.std.specs.Prelude.{Option, Some, None, Result, Ok, Err}
 use Rattle.reader.specs.declared.refusal.Refusal.{Refusal}
 use Rattle.reader.specs.declared.refusal.Refusal.TheVariants.{Buffer, StateCount}
+use Rattle.reader.specs.Refusal.{first_number, first_place, answer_number, answer_place}
 use Rattle.reader.proofs.BoolLaws.{or_left, or_right, or_true, or_false}
 use Rattle.reader.proofs.Unambiguous.{one_reading}
 use Rattle.automaton.specs.Limits.{state_limit}
 use Rattle.automaton.specs.Alphabet.{letter_count}
 use Rattle.automaton.specs.Condition.{mask_of}
-use Rattle.automaton.specs.Construction.{short_automaton, count_refusal, construct_refusal, construction_of, ConstructionServed, Constructed}
+use Rattle.automaton.specs.Construction.{CountOf, Over, short_automaton, count_refusal, construct_refusal, construction_of, ConstructionServed, Constructed}
 use Rattle.automaton.proofs.ReadLaws.{count_of}
-use Rattle.game.specs.Answer.{verdict_of}
+use Rattle.game.specs.Answer.{Answer, verdict_of}
 use Rattle.plays.specs.declared.mode.Mode.{Mode}
 use Rattle.plays.specs.Arena.{arena}
 use Rattle.game.specs.inner.Valid.{Valid}
 use Rattle.game.specs.Tables.{Tables, Verdict}
-use Rattle.game.specs.Rule.{Buffers, buffers, short_buffers, size_refusal, rule_refusal, RuleSolved}
-use Rattle.game.specs.inner.RuleChecks.{RuleRefused, TestsPassed}
+use Rattle.game.specs.Rule.{Buffers, buffers, short_buffers, size_refusal, rule_refusal, RuleServed, RuleSolved}
+use Rattle.game.specs.inner.RuleChecks.{Read, RuleRefused, TestsPassed}
 use Rattle.game.proofs.RuleLaws.{some_state, automaton_valid, can_keep, cannot_keep, round_keep}
 
--- refused before the states are counted
-pub refused_early : (mode : Mode) (i o : ℕ) (rule condition : List ℕ) (old : Buffers) (x : Refusal) → RuleRefused i o rule condition x
-    → RuleSolved mode i o rule condition old old (Err x)
-refused_early mode i o rule condition old x c =
-    let t = c.texts in
-    let n = count_of i o rule t.reading t.read in
+-- the promise, from the readings of the texts, the number of states and the refusal
+solved : {mode : Mode} {i o : ℕ} {rule condition : List ℕ} {old new : Buffers} {r : Answer} (t : Read i o rule condition) (n : ℕ) → CountOf i o rule n
+    → (x : Option Refusal) → x ≡ rule_refusal i o rule condition old t.reading t.condition_reading t.none n
+    → answer_number r ≡ first_number x → answer_place r ≡ first_place x
+    → (x ≡ None → (k : ℕ) × (r ≡ Ok (verdict_of n k)) × RuleServed mode i o rule condition old new n k)
+    → ((y : Refusal) → x ≡ Some y → (r ≡ Err y) × (new ≡ old))
+    → (x ≡ Some StateCount → Over i o rule)
+    → RuleSolved mode i o rule condition old new r
+solved t n k x f l p s u v =
     record {
       reading = t.reading;
       read = t.read;
@@ -33,16 +37,26 @@ refused_early mode i o rule condition old x c =
       condition_read = t.condition_read;
       none = t.none;
       none_satisfies = t.none_satisfies;
-      states = n.0;
-      counted = n.1;
-      refusal = Some x;
-      first = sym (c.first old n.0);
-      number = refl;
-      place = refl;
-      served = λ e. let z : ◌≡◌ {A = ℕ} 0 1 = cc in absurd (omega arith);
-      refused = λ y e. let h : x ≡ y = cc in (ap Err h, refl);
-      over = λ e. let h : x ≡ StateCount = cc in absurd (c.not_count h);
+      states = n;
+      counted = k;
+      refusal = x;
+      first = f;
+      number = l;
+      place = p;
+      served = s;
+      refused = u;
+      over = v;
     }
+
+-- refused before the states are counted
+pub refused_early : (mode : Mode) (i o : ℕ) (rule condition : List ℕ) (old : Buffers) (x : Refusal) → RuleRefused i o rule condition x
+    → RuleSolved mode i o rule condition old old (Err x)
+refused_early mode i o rule condition old x c =
+    let n = count_of i o rule c.texts.reading c.texts.read in
+    solved c.texts n.0 n.1 (Some x) (sym (c.first old n.0)) refl refl
+    (λ e. let z : ◌≡◌ {A = ℕ} 0 1 = cc in absurd (omega arith))
+    (λ y e. let h : x ≡ y = cc in (ap Err h, refl))
+    (λ e. let h : x ≡ StateCount = cc in absurd (c.not_count h))
 
 -- what an answer of the construction says of its refusal
 built_is : (x : Option Refusal) (m n : ℕ) → Ok n ≡ construction_of x m → (x ≡ None) × (n ≡ m)
@@ -98,23 +112,10 @@ module _ (mode : Mode) (i o : ℕ) (rule condition : List ℕ) (old : Buffers) (
   refused_late y made =
       let u = unbuilt_is made.refusal y made.states made.answer in
       let kept = made.untouched (λ e. let f : None ≡ Some y = sym e ∙ u in let z : ◌≡◌ {A = ℕ} 0 1 = cc in omega arith) in
-      record {
-        reading = pass.texts.reading;
-        read = pass.texts.read;
-        condition_reading = pass.texts.condition_reading;
-        condition_read = pass.texts.condition_read;
-        none = pass.texts.none;
-        none_satisfies = pass.texts.none_satisfies;
-        states = made.states;
-        counted = made.counted;
-        refusal = Some y;
-        first = sym u ∙ agrees (Err y) made;
-        number = refl;
-        place = refl;
-        served = λ e. let z : ◌≡◌ {A = ℕ} 0 1 = cc in absurd (omega arith);
-        refused = λ x e. let h : y ≡ x = cc in (ap Err h, ap₂ (λ (l k : List ℕ). buffers l k old.system old.environment) kept.0 kept.1);
-        over = λ e. made.over (u ∙ e);
-      }
+      solved pass.texts made.states made.counted (Some y) (sym u ∙ agrees (Err y) made) refl refl
+      (λ e. let z : ◌≡◌ {A = ℕ} 0 1 = cc in absurd (omega arith))
+      (λ x e. let h : y ≡ x = cc in (ap Err h, ap₂ (λ (l k : List ℕ). buffers l k old.system old.environment) kept.0 kept.1))
+      (λ e. made.over (u ∙ e))
 
   -- a verdict
   module _ (n : ℕ) (made : Constructed i o rule room old.transitions old.accepting t a (Ok n)) where
@@ -173,39 +174,28 @@ module _ (mode : Mode) (i o : ℕ) (rule condition : List ℕ) (old : Buffers) (
         subst (λ (k : ℕ). Tables mode (arena i o n t a k) old.system old.environment σ τ) m tables in
         let said : Verdict mode (arena i o n t a (mask_of pass.assumption i)) σ τ 0 r =
         subst (λ (k : ℕ). Verdict mode (arena i o n t a k) σ τ 0 r) m verdict in
-        record {
-          reading = pass.texts.reading;
-          read = pass.texts.read;
-          condition_reading = pass.texts.condition_reading;
-          condition_read = pass.texts.condition_read;
-          none = pass.texts.none;
-          none_satisfies = pass.texts.none_satisfies;
-          states = n;
-          counted = subst (λ (m : ℕ). Rattle.automaton.specs.Construction.CountOf i o rule m) (sym is_served.1) made.counted;
-          refusal = None;
-          first = sym is_served.0 ∙ agrees (Ok n) made
-              ∙ ap (rule_refusal i o rule condition old pass.texts.reading pass.texts.condition_reading pass.texts.none) (sym is_served.1);
-          number = refl;
-          place = refl;
-          served = λ _. (
-            r,
-            refl,
-            record {
-              formula = s.formula;
-              good = s.good;
-              assumption = pass.assumption;
-              assumed = pass.assumed;
-              judges = pass.judges;
-              automaton = s.automaton;
-              transitions_kept = s.transitions_kept;
-              accepting_kept = s.accepting_kept;
-              tables = won;
-              verdict = said;
-              can_promise = λ e. can_keep s.formula i o n t a (mask_of pass.assumption i) s.automaton mode r σ (said.system e).1;
-              cannot_promise = λ e. cannot_keep s.formula i o n t a (mask_of pass.assumption i) s.automaton mode τ (said.environment e).wins;
-              round = round_keep s.formula i o n t a (mask_of pass.assumption i) s.automaton mode r said.round;
-            },
-          );
-          refused = λ x e. let z : ◌≡◌ {A = ℕ} 0 1 = cc in absurd (omega arith);
-          over = λ e. let z : ◌≡◌ {A = ℕ} 0 1 = cc in absurd (omega arith);
-        }
+        solved pass.texts n (subst (λ (m : ℕ). CountOf i o rule m) (sym is_served.1) made.counted) None
+        (sym is_served.0 ∙ agrees (Ok n) made
+        ∙ ap (rule_refusal i o rule condition old pass.texts.reading pass.texts.condition_reading pass.texts.none) (sym is_served.1))
+        refl refl
+        (λ _. (
+          r,
+          refl,
+          record {
+            formula = s.formula;
+            good = s.good;
+            assumption = pass.assumption;
+            assumed = pass.assumed;
+            judges = pass.judges;
+            automaton = s.automaton;
+            transitions_kept = s.transitions_kept;
+            accepting_kept = s.accepting_kept;
+            tables = won;
+            verdict = said;
+            can_promise = λ e. can_keep s.formula i o n t a (mask_of pass.assumption i) s.automaton mode r σ (said.system e).1;
+            cannot_promise = λ e. cannot_keep s.formula i o n t a (mask_of pass.assumption i) s.automaton mode τ (said.environment e).wins;
+            round = round_keep s.formula i o n t a (mask_of pass.assumption i) s.automaton mode r said.round;
+          },
+        ))
+        (λ x e. let z : ◌≡◌ {A = ℕ} 0 1 = cc in absurd (omega arith))
+        (λ e. let z : ◌≡◌ {A = ℕ} 0 1 = cc in absurd (omega arith))

@@ -18,8 +18,8 @@ pub struct Automaton<'a> {
     ghost in_range: { InRange states inputs outputs },
 }
 
-// A game to be solved: the mode, the condition's mask, the numbers of states, inputs and outputs, and the automaton's transitions and flags. No `Automaton` in it:
-// `g.automaton.states` in every contract would be no plainer. Clauses say `s < g.states` and the like: a type for an index would be longer than that.
+// A game to be solved: the mode, the condition's mask, the numbers of states, inputs and outputs, and the automaton's transitions and flags. No `Automaton` in
+// it: `g.automaton.states` in every contract would be no plainer. Clauses say `s < g.states` and the like: a type for an index would be longer than that.
 #[derive(Clone, Copy)]
 pub struct Game<'a> {
     pub mode: Mode,

@@ -61,7 +61,8 @@ fn later_refusal(
     None
 }
 
-// The game on a given automaton, or the refusal that comes first. The parameters stand side by side as the C interface hands them in; from here on they are a `Game`.
+// The game on a given automaton, or the refusal that comes first. The parameters stand side by side as the C interface hands them in; from here on they are a
+// `Game`.
 fn accepted<'a>(
     i: usize,
     o: usize,

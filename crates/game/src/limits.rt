@@ -1,8 +1,8 @@
 // The limits of the game. specs/inner/Limits.antt and specs/Tables.antt have the same ones for the contracts.
 use automaton::limits::STATE_LIMIT;
 
-// A rank: the number of a round or a pass, and 0 for none. A number and no `Option`, which was tried: the solver took 4 to 9 hundredths longer (docs/TIMES.md), and
-// the arrays twice the bytes.
+// A rank: the number of a round or a pass, and 0 for none. A number and no `Option`, which was tried: the solver took 4 to 9 hundredths longer (docs/TIMES.md),
+// and the arrays twice the bytes.
 pub type Rank = u16;
 
 // A rank for each state.

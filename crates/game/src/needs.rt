@@ -2,6 +2,7 @@
 ghost use Rattle.std.specs.Prelude.{◌≡◌, ◌+◌, ◌<◌, ◌≤◌, true, false, slice_index};
 ghost use Rattle.automaton.specs.Limits.{state_limit};
 ghost use Rattle.game.specs.inner.Game.{arena_of};
+ghost use Rattle.game.specs.inner.Serving.{ranked_below, safe_below, FirstUnserved};
 ghost use Rattle.game.specs.inner.Needs.{Marked, Bounds, raised_need, NextNeed, Swept, Settled, SystemNeeds, Narrowed};
 
 use crate::arena::Game;
@@ -18,7 +19,8 @@ fn raised(limit: Rank, need: Rank) -> Rank
     if need < limit { need + 1 } else { 0 }
 }
 
-// Needs, and the limit that none shall be above. `Bounds` and `SystemNeeds` stay clauses: there are pairs in them, which a ghost field would have in brackets only.
+// Needs, and the limit that none shall be above. `Bounds` and `SystemNeeds` stay clauses: there are pairs in them, which a ghost field would have in brackets
+// only.
 #[derive(Clone, Copy)]
 pub struct Needs {
     pub ranks: Ranks,
@@ -27,6 +29,26 @@ pub struct Needs {
 }
 
 impl Needs {
+    // The first input of state s, if there is one, for which no output enters a goal, a state that is won where the input has the condition, or a need within
+    // the limit where it lacks it.
+    pub(crate) fn unserved<'a>(
+        &'a self,
+        g: &Game,
+        won: Below<'a>,
+        s: usize,
+        witness: &mut Witness,
+    ) -> Option<usize>
+        requires { s < g.now.states }
+        ensures { FirstUnserved (arena_of g.now) (ranked_below won.entry.limit won.entry.ranks.now)
+            (safe_below true (self.now.limit + 1) self.now.ranks) s result }
+    {
+        let safe = Safe::Inside(Below {
+            limit: self.limit + 1,
+            ranks: &self.ranks,
+        });
+        Targets { won, safe }.unserved(g, s, witness)
+    }
+
     // The need of state s after a look at it: as it is, where every input has an output by which the needs fall; raised, where an input with the condition has
     // none; dropped, where it is above the limit, or an input without the condition has none, since no larger need would help there.
     fn next_need(&self, g: &Game, s: usize, witness: &mut Witness) -> Rank
@@ -38,17 +60,11 @@ impl Needs {
         if own == 0 || self.limit < own {
             return 0;
         }
-        let targets = Targets {
-            won: Below {
-                limit: own,
-                ranks: &self.ranks,
-            },
-            safe: Safe::Inside(Below {
-                limit: self.limit + 1,
-                ranks: &self.ranks,
-            }),
+        let won = Below {
+            limit: own,
+            ranks: &self.ranks,
         };
-        match targets.unserved(g, s, witness) {
+        match self.unserved(g, won, s, witness) {
             None => own,
             Some(x) if g.has_condition(x) => raised(self.limit, own),
             Some(_) => 0,

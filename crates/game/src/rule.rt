@@ -27,8 +27,8 @@ fn table_room(i: usize, system: &[u8], environment: &[u8]) -> usize
     environment.len()
 }
 
-// The condition's mask, or the refusals before the states are counted, 1, 2, 4 to 8 and 15, in their order. Both lengths are tested before a text is read, and no
-// nodes are kept: so no `read_text` of the automaton.
+// The condition's mask, or the refusals before the states are counted, 1, 2, 4 to 8 and 15, in their order. Both lengths are tested before a text is read, and
+// no nodes are kept: so no `read_text` of the automaton.
 fn check_rule(i: usize, o: usize, rule: &[u8], condition: &[u8]) -> Result<u16, Refusal>
     ensures { RuleChecked i o rule.now condition.now result }
 {

@@ -60,8 +60,9 @@ impl<'a> Targets<'a> {
         self.is_safe(t)
     }
 
-    // An output that serves input x on state s, if there is one. The search begins at the output `first` and goes around, counted beside the `for`: two loops would
-    // be two calls of `serves`, slower than one (docs/PROVING.md, "Speed"), and a chain of two ranges, both cut at the number of outputs, would be no plainer.
+    // An output that serves input x on state s, if there is one. The search begins at the output `first` and goes around, counted beside the `for`: two loops
+    // would be two calls of `serves`, slower than one (docs/PROVING.md, "Speed"), and a chain of two ranges, both cut at the number of outputs, would be no
+    // plainer.
     fn serving_output(&self, g: &Game, s: usize, x: usize, first: usize) -> Option<usize>
         requires { (s < g.now.states) × (x < g.now.inputs) }
         ensures { Served (arena_of g.now) (won_by self.now) (safe_by self.now) s x result }

@@ -39,8 +39,8 @@ fn is_below(ranks: &Ranks, most: Rank, t: usize) -> bool
     (1..=most).contains(&ranks[t])
 }
 
-// The largest rank that is allowed after a step from a state of rank `own`, where `most` is the cap of ranks that are not steady. The truth values choose a number,
-// no step to run.
+// The largest rank that is allowed after a step from a state of rank `own`, where `most` is the cap of ranks that are not steady. The truth values choose a
+// number, no step to run.
 fn limit(steady: bool, most: Rank, judged: bool, own: Rank) -> Rank
     requires { 0 < own }
     ensures { result ≡ limit_of steady most judged own }
@@ -169,8 +169,8 @@ fn fill_environment(ranks: &EnvironmentRanks, environment: &mut [u8])
     }
 }
 
-// Solves the game, fills both tables and gives the round number of the start, which is 0 where the system does not win from it. A number and no `Option`: `Verdict`
-// in specs/Tables.antt is about this number.
+// Solves the game, fills both tables and gives the round number of the start, which is 0 where the system does not win from it. A number and no `Option`:
+// `Verdict` in specs/Tables.antt is about this number.
 pub(crate) fn decide(g: &Game, start: usize, system: &mut [u8], environment: &mut [u8]) -> usize
     requires start_lt_states { start < g.now.states }
     requires inputs_nonzero { (0 < g.now.inputs) × (0 < g.now.outputs)

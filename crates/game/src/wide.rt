@@ -10,7 +10,7 @@ use crate::arena::Game;
 use crate::below::Below;
 use crate::limits::{RANK_LIMIT, Rank, Ranks};
 use crate::needs::Needs;
-use crate::search::{Safe, Targets, Witness};
+use crate::search::Witness;
 use automaton::limits::STATE_LIMIT;
 
 impl Needs {
@@ -25,17 +25,11 @@ impl Needs {
         if system[s] == 0 || self.ranks[s] != 0 {
             return false;
         }
-        let targets = Targets {
-            won: Below {
-                limit: RANK_LIMIT,
-                ranks: system,
-            },
-            safe: Safe::Inside(Below {
-                limit: self.limit + 1,
-                ranks: &self.ranks,
-            }),
+        let won = Below {
+            limit: RANK_LIMIT,
+            ranks: system,
         };
-        targets.unserved(g, s, witness).is_none()
+        self.unserved(g, won, s, witness).is_none()
     }
 
     // The pass in which each state is due: for one that may have a need above the limit its need with n, which is no larger, and no pass before the first; 0
@@ -61,17 +55,11 @@ impl Needs {
         requires s_lt_states { (s < g.now.states) × (0 < p) }
         ensures { Opened (arena_of g.now) self.now.limit self.now.ranks p s result }
     {
-        let targets = Targets {
-            won: Below {
-                limit: p,
-                ranks: &self.ranks,
-            },
-            safe: Safe::Inside(Below {
-                limit: self.limit + 1,
-                ranks: &self.ranks,
-            }),
+        let won = Below {
+            limit: p,
+            ranks: &self.ranks,
         };
-        targets.unserved(g, s, witness).is_none()
+        self.unserved(g, won, s, witness).is_none()
     }
 
     // Looks at state s in pass p if it is due: gives it the need p, or puts it off to the next pass. Says whether another pass may give a need: the state got

@@ -15,13 +15,12 @@ use Rattle.plays.specs.declared.mode.Mode.{Mode}
 use Rattle.std.specs.Prelude.{Option, None, Ok, Err}
 use Rattle.reader.specs.declared.reading.Unreadable.TheVariants.{Bad}
 use Rattle.reader.specs.declared.refusal.Refusal.{Refusal}
-use Rattle.reader.specs.declared.refusal.Refusal.TheVariants.{Alphabet, TextLength, Buffer, RuleText, RuleNodes, RuleOperators}
-use Rattle.reader.specs.declared.refusal.Refusal.TheVariants.{ConditionText, ConditionNodes, StateCount, GivenCount, Move, State, Value, Unsatisfiable}
 use Rattle.reader.specs.declared.marks.Kind.{Kind}
 use Rattle.reader.specs.Limits.{text_limit}
 use Rattle.reader.specs.Reading.{Reading, ReadingOf}
 use Rattle.reader.specs.Refusal.{number_of, place_of, first_place}
 use Rattle.reader.proofs.BoolLaws.{or_left, or_right}
+use Rattle.reader.proofs.RefusalLaws.{number_range}
 use Rattle.automaton.specs.Limits.{number_limit}
 use Rattle.automaton.specs.Condition.{mask_of}
 use Rattle.plays.specs.Arena.{arena}
@@ -38,20 +37,7 @@ use Rattle.listing.proofs.LengthLaws.{system_length, environment_length, line_le
 use Rattle.listing.proofs.PromiseLaws.{served_or_refused}
 
 number_small : (x : Refusal) → number_of x ≤ 15
-number_small Alphabet = omega arith
-number_small TextLength = omega arith
-number_small (Buffer n) = omega arith
-number_small (RuleText k) = omega arith
-number_small RuleNodes = omega arith
-number_small RuleOperators = omega arith
-number_small (ConditionText k) = omega arith
-number_small ConditionNodes = omega arith
-number_small StateCount = omega arith
-number_small GivenCount = omega arith
-number_small (Move k) = omega arith
-number_small State = omega arith
-number_small (Value k) = omega arith
-number_small Unsatisfiable = omega arith
+number_small x = (number_range x).1
 
 -- the place of a bad text
 place_within : (i : ℕ) (kind : ℕ → Kind) (text : List ℕ) (ρ : Reading) → ReadingOf i kind text ρ → (k : ℕ) → ρ ≡ Err (Bad k) → k ≤ text_limit

@@ -1,6 +1,6 @@
 -- Laws of refusals (specs/Refusal.antt): which of them differ, that each has a number, and what a text without a formula is refused by.
 -- Assumes nothing.
-use Prim.Native.Nat.{◌<◌}
+use Prim.Native.Nat.{◌<◌, ◌≤◌}
 use mathlib.Core.Path.{◌≡◌, refl, ap}
 use mathlib.Core.Logic.{◌⊎◌}
 use native.Mathlib.Omega.{arith}
@@ -19,22 +19,25 @@ use Rattle.reader.specs.Refusal.{number_of, first_number, text_refusal, after_te
 pub differs : (x y : Refusal) → (number_of x ≡ number_of y → ⊥) → x ≡ y → ⊥
 differs x y h e = h (ap number_of e)
 
--- every refusal has a number
+-- every refusal has a number, of at most 15
+pub number_range : (x : Refusal) → (0 < number_of x) × (number_of x ≤ 15)
+number_range Alphabet = (omega arith, omega arith)
+number_range TextLength = (omega arith, omega arith)
+number_range (Buffer n) = (omega arith, omega arith)
+number_range (RuleText k) = (omega arith, omega arith)
+number_range RuleNodes = (omega arith, omega arith)
+number_range RuleOperators = (omega arith, omega arith)
+number_range (ConditionText k) = (omega arith, omega arith)
+number_range ConditionNodes = (omega arith, omega arith)
+number_range StateCount = (omega arith, omega arith)
+number_range GivenCount = (omega arith, omega arith)
+number_range (Move k) = (omega arith, omega arith)
+number_range State = (omega arith, omega arith)
+number_range (Value k) = (omega arith, omega arith)
+number_range Unsatisfiable = (omega arith, omega arith)
+
 pub numbered : (x : Refusal) → 0 < number_of x
-numbered Alphabet = omega arith
-numbered TextLength = omega arith
-numbered (Buffer n) = omega arith
-numbered (RuleText k) = omega arith
-numbered RuleNodes = omega arith
-numbered RuleOperators = omega arith
-numbered (ConditionText k) = omega arith
-numbered ConditionNodes = omega arith
-numbered StateCount = omega arith
-numbered GivenCount = omega arith
-numbered (Move k) = omega arith
-numbered State = omega arith
-numbered (Value k) = omega arith
-numbered Unsatisfiable = omega arith
+numbered x = (number_range x).0
 
 -- a call is refused or served
 pub refused_or_served : (x : Option Refusal) → (x ≡ None) ⊎ ((y : Refusal) × (x ≡ Some y))

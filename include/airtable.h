@@ -61,7 +61,7 @@
  * else may change these bytes during the call. Given that, every value of every argument is served or refused.
  *
  * A call keeps nothing and allocates nothing, so several threads may call at once, each with its own memory. The
- * deepest texts, with 127 parentheses inside one another, take just under 200 KB of stack, and ordinary ones less
+ * deepest texts, with 127 parentheses inside one another, take just under 180 KB of stack, and ordinary ones less
  * than 40 KB. The library is for x86-64 Linux. Of the C library it needs memcpy and memset and nothing else.
  */
 #ifndef AIRTABLE_H

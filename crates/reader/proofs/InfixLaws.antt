@@ -47,6 +47,10 @@ carried {p} {r} s P h = subst (λ (i : ℕ). P i p.text.now) s.same_inputs (subs
 pub carried_on : {p r : Reader} → SameSource p r → (P : (i : ℕ) (text : Text) → Type 0) → P p.inputs p.text.now → P r.inputs r.text.now
 carried_on {p} {r} s P h = subst (λ (i : ℕ). P i r.text.now) (sym s.same_inputs) (subst (λ (t : Text). P p.inputs t) (sym s.same_text) h)
 
+-- a level above 0 is not 0
+pub above_zero : {n : ℕ} → 0 < n → (n ≡ 0 → ⊥)
+above_zero h z = omega arith
+
 -- a level above 0 is one more than another
 successor : (n : ℕ) → (n ≡ 0 → ⊥) → n ≡ suc (n - 1)
 successor n above = omega arith
@@ -97,7 +101,18 @@ alone_at {i} l {text} {p} {out} {q} {out₁} first at_mark none =
         let a = first.reads u (b ∷ (v ++ rest)) α (e ∙ append_assoc u (b ∷ v) rest) x (follow_infix l b (v ++ rest) k) in
         absurd (none (inside text q.at b (v ++ rest) a.left, ap mark_kind (first_mark text q.at b (v ++ rest) at_mark a.left) ∙ k))
 
-pub alone : {n : ℕ} → (n ≡ 0 → ⊥) → {p : Reader} {out : List Node} {q : Reader} {out₁ : List Node} → Consumed p.inputs (n - 1) p.text.now p out q out₁
+-- what was read up to q is a formula of the level below n
+abbrev pub ConsumedBelow : (n : ℕ) (p : Reader) (out : List Node) (q : Reader) (out₁ : List Node) → Type 0
+ConsumedBelow n p out q out₁ = Consumed p.inputs (n - 1) p.text.now p out q out₁
+
+-- the level below 1 is what prefix marks bind
+pub prefix_below : {n : ℕ} → n ≡ 1 → {p : Reader} {out : List Node} {q : Reader} {out₁ : List Node} → Consumed p.inputs 0 p.text.now p out q out₁
+    → ConsumedBelow n p out q out₁
+prefix_below {n} e {p} {out} {q} {out₁} first =
+    let z : 0 ≡ n - 1 = omega arith in
+    subst (λ (k : ℕ). Consumed p.inputs k p.text.now p out q out₁) z first
+
+pub alone : {n : ℕ} → (n ≡ 0 → ⊥) → {p : Reader} {out : List Node} {q : Reader} {out₁ : List Node} → ConsumedBelow n p out q out₁
     → (HasInfix q.text.now q.at n → ⊥) → Consumed p.inputs n p.text.now p out q out₁
 alone {n} above {p} {out} {q} {out₁} first none =
     let e = successor n above in
@@ -114,9 +129,14 @@ module _ {t n : ℕ} (above : n ≡ 0 → ⊥) {p : Reader} {room : ℕ} (given 
   pub lower_ready : Falling t p.inputs (n - 1) p.text.now p room
   lower_ready = (omega (arith, given.0), down (n - 1) r)
 
+  -- which is what prefix marks bind, if the level is 1
+  pub prefix_ready : n ≡ 1 → (measure p.text.now p 0 < t) × Readable p.inputs 0 p.text.now p room
+  prefix_ready e =
+      let z : n - 1 ≡ 0 = omega arith in
+      (omega (arith, given.0), subst (λ (k : ℕ). Readable p.inputs k p.text.now p room) z lower_ready.1)
+
   -- a formula of the level below has been read up to q, and an infix mark of the level is there
-  module _ {out : List Node} {q : Reader} {out₁ : List Node} (first : Consumed p.inputs (n - 1) p.text.now p out q out₁)
-      (mark_here : HasInfix q.text.now q.at n) where
+  module _ {out : List Node} {q : Reader} {out₁ : List Node} (first : ConsumedBelow n p out q out₁) (mark_here : HasInfix q.text.now q.at n) where
     here : HasInfix p.text.now q.at n
     here = carried first.source (λ j t. HasInfix t q.at n) mark_here
 

@@ -91,16 +91,18 @@ impl<'a> Reader<'a> {
         }
     }
 
-    // Reads a formula of the level, and writes its nodes.
+    // Reads a formula of a level above 0, and writes its nodes. Level 0 is `read_prefix`'s.
     #[cycle(read)]
     pub(crate) fn read(&self, level: u8, out: &mut [Node]) -> Reader<'a>
-        requires { Readable self.now.inputs level self.now.text.now self.now (length out.old) }
+        requires above { 0 < level }
+        requires readable { Readable self.now.inputs level self.now.text.now self.now (length out.old) }
         ensures { Consumed self.now.inputs level self.now.text.now self.now out.old result out.new }
     {
-        if level == 0 {
-            return self.read_prefix(out);
-        }
-        let left = self.read(level - 1, out);
+        let left = if level == 1 {
+            self.read_prefix(out)
+        } else {
+            self.read(level - 1, out)
+        };
         if !left.has_infix(level) {
             return left;
         }

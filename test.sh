@@ -1,7 +1,7 @@
 #!/usr/bin/env bash
 # The test run: rt ci proves every crate, tries the must-fail edits and runs the program (what it passed before on this machine it does
 # not prove again); then the independent solver's own tests, the comparison of the C interface and of the program airtable with it, the
-# examples, first use, and the example in C.
+# examples, first use, the example in C, and the desk: its own tests, with the simulator in a browser where there is one, and its script.
 # The benchmarks (bench/run) are built and not run: nothing here is timed.
 # Its last line is rt ci's 'N passed, 0 failed', printed only when everything else passed too.
 set -euo pipefail
@@ -38,5 +38,10 @@ cc -std=c99 -pedantic -Wall -Wextra -Werror -Iinclude examples/follow.c crates/c
 target/follow < examples/follow.input | diff examples/follow.expected -
 echo "examples/follow.c: as expected"
 tests/c/check crates/capi/out/libcapi.a
+
+command -v dot > /dev/null || echo "the drawings by Graphviz are left out: no dot"
+(cd desk && cargo build --release --offline --quiet && cargo test --release --offline --quiet --tests)
+tests/first_desk.sh
+tests/desk_examples.sh
 
 tail -n 1 "$log"

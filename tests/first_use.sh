@@ -5,48 +5,10 @@
 # evaluated, so a name in single quotes is meant to stay.
 # shellcheck disable=SC2016
 set -euo pipefail
-export LC_ALL=C
 cd "$(dirname "$0")/.."
-room=$(mktemp -d)
-trap 'rm -rf "$room"' EXIT
-chmod 711 "$room"
-mkdir -m 1777 "$room/tmp"
-export TMPDIR=$room/tmp
+title='first use'
+. tests/judging.sh
 airtable=$PWD/airtable
-cases=0
-
-# ---- how a case is judged
-
-wrong() { # WHAT
-    printf 'first use: %s: %s\n-- status: %s\n-- standard output:\n' "$case" "$1" "$status"
-    cat -v "$room/out"
-    printf -- '-- standard error:\n'
-    cat -v "$room/err"
-    exit 1
-}
-
-# In every case: no odd byte on standard error, none at all if no words are expected there, and no temporary file left.
-runs() { # NAME STATUS OUTPUT COMMAND [WORDS..]
-    local expected=$2 output=$3 command=$4 said words
-    case=$1 status=0
-    shift 4
-    (eval "$command") > "$room/out" 2> "$room/err" || status=$?
-    [ "$status" -eq "$expected" ] || wrong "the status is not $expected"
-    printf '%s' "$output" | cmp -s - "$room/out" || wrong "standard output is not '$output'"
-    [ "$(tr -d '\012\040-\176' < "$room/err" | wc -c)" -eq 0 ] || wrong "an odd byte on standard error"
-    [ -z "$(ls -A "$room/tmp")" ] || wrong "a temporary file is left"
-    said=$(cat "$room/err")
-    [ $# -gt 0 ] || [ -z "$said" ] || wrong "standard error is not empty"
-    for words in "$@"; do [[ $said == *"$words"* ]] || wrong "standard error has no '$words'"; done
-    cases=$((cases + 1))
-}
-
-# A wrong use, or a failed read, write or build: nothing is printed.
-fails() { # NAME COMMAND WORDS..
-    local name=$1 command=$2
-    shift 2
-    runs "$name" 2 '' "$command" "$@"
-}
 
 # An input, with escapes, that is refused.
 refuses() { # INPUT NUMBER-AND-PLACE WORDS..
@@ -200,8 +162,9 @@ runs 'a file without end' 1 $'refused 14 0\n' 'ulimit -f 100; "$airtable" /dev/z
 # that the file `version` has and how many bytes it read. A program that is the same already it leaves alone.
 project="$room/a project"
 airtable=$project/airtable
-mkdir -p "$project/crates/airtable" "$room/tools" "$room/fake"
+mkdir -p "$project/crates/airtable" "$project/tools" "$room/tools" "$room/fake"
 cp airtable "$project"
+cp tools/building.sh "$project/tools"
 printf '# a: capi\nreader:\nautomaton: reader # capi\ngame: reader automaton\ncapi staticlib: game\n\nlisting: game\n\t airtable status=0 : std listing\n' > "$project/crates.txt"
 for crate in reader automaton game listing airtable capi; do
     mkdir -p "$project/crates/$crate"/{src,specs,proofs/main,must-fail}

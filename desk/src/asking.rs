@@ -1,7 +1,7 @@
 //! Which other promise would do: the engine is asked the same rule with other promises.
 
 use crate::case::Case;
-use crate::engine::{Answer, Mode, Question};
+use crate::engine::{Mode, Question};
 use crate::formula;
 
 /// A promise that was asked about, and the engine's answer.
@@ -41,7 +41,7 @@ fn ask(case: &Case, mode: Mode, meets: &[bool]) -> Asked {
     if meets != case.meets {
         question.condition = formula::short(meets, &LETTERS[..question.inputs]).replace(' ', "");
     }
-    let answer: Answer = question.solve().expect("a met condition of few marks is accepted as the rule was");
+    let answer = question.solve().expect("a met condition of few marks is accepted as the rule was");
     Asked { mode, meets: meets.to_vec(), can: answer.can, round: answer.round }
 }
 

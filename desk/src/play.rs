@@ -109,6 +109,15 @@ pub fn strays(answer: &Answer, state: usize) -> Vec<usize> {
     found
 }
 
+/// The loser's states that one wrong command of the winner leads to, in a play by its table.
+pub fn lost_by_one(answer: &Answer) -> Vec<usize> {
+    let reached = reached(answer);
+    let mut lost: Vec<usize> = lively(answer, &reached).into_iter().flat_map(|s| strays(answer, s)).collect();
+    lost.sort_unstable();
+    lost.dedup();
+    lost
+}
+
 /// The inputs of moves in words: a formula, or the exact setting where it is one.
 pub fn inputs_shown(case: &Case, moves: &Moves) -> String {
     match formula::short(&moves.inputs, &case.input_names()).as_str() {
@@ -173,14 +182,10 @@ pub fn graph_within(case: &Case, with_lost: usize) -> Graph {
     let lively = lively(answer, &reached);
     graph.arrows = lively.iter().flat_map(|&s| arrows(case, s)).collect();
     let stray = |from: usize, to: usize| Arrow { from, to, lines: Vec::new(), stray: true };
-    let strays: Vec<Arrow> =
-        lively.iter().flat_map(|&s| strays(answer, s).into_iter().map(move |t| stray(s, t))).collect();
-    let mut lost: Vec<usize> = strays.iter().map(|arrow| arrow.to).collect();
-    lost.sort_unstable();
-    lost.dedup();
+    let lost = lost_by_one(answer);
     if graph.nodes.len() + lost.len() <= with_lost {
         graph.nodes.extend(lost.into_iter().map(|s| node(s, true)));
-        graph.arrows.extend(strays);
+        graph.arrows.extend(lively.iter().flat_map(|&s| strays(answer, s).into_iter().map(move |t| stray(s, t))));
     }
     graph
 }

@@ -67,11 +67,7 @@ fn stray_outputs(case: &Case) -> String {
     if play::odd_rule(case) == Some(OddRule::KeptByAll) {
         return "No output can lose this rule: the first step keeps it.".into();
     }
-    let reached = play::reached(answer);
-    let mut lost: Vec<usize> =
-        play::lively(answer, &reached).into_iter().flat_map(|s| play::strays(answer, s)).collect();
-    lost.sort_unstable();
-    lost.dedup();
+    let lost = play::lost_by_one(answer);
     let lost = if lost.is_empty() {
         "Here no wrong output in one step loses the rule.".into()
     } else {
@@ -81,8 +77,9 @@ fn stray_outputs(case: &Case) -> String {
     let row = if case.question.mode == Mode::Stable && condition(case).is_some() { " in a row" } else { "" };
     let with = condition(case).map_or(String::new(), |text| format!(" with {}", code(&text)));
     format!(
-        "{lost} If it strays to a state from which the station can still keep the rule, and goes on by the table (the listing of section {} has the rows that section 5 leaves out), the rule is kept by the {} step{row}{with} after that at the latest (<code>SystemWins</code> \
-         in <code>crates/plays/specs/Strategy.antt</code>).",
+        "{lost} If it strays to a state from which the station can still keep the rule, and goes on by the table (the \
+         listing of section {} has the rows that section 5 leaves out), the rule is kept by the {} step{row}{with} after that at the \
+         latest (<code>SystemWins</code> in <code>crates/plays/specs/Strategy.antt</code>).",
         last(case),
         ordinal(answer.n)
     )
@@ -136,8 +133,8 @@ pub fn assumed(case: &Case) -> String {
          keeps the rule, come from the library. The page's own are: the translation from names, which stands in the last section so \
          that it need not be trusted unseen; the formulas in words and the short formulas; the picture and the simulator; and what is \
          read off the moves: which states a table comes to, which are lost by one wrong step, from which no goal can follow, \
-         which come only behind a goal, what the station tries in a play that defeats it, warnings, and which of the promises asked about is the \
-         weakest.</li>\n</ul>\n";
+         which come only behind a goal, what the station tries in a play that defeats it, warnings, and which of the promises asked \
+         about is the weakest.</li>\n</ul>\n";
     section("assumed", &format!("{}. What is assumed", last(case) - 1), body)
 }
 

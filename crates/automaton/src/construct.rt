@@ -88,8 +88,9 @@ fn build_nodes(
     ensures { (φ : Formula) → Represents nodes.now φ
         → BuiltAutomaton φ letters room transitions.old accepting.old transitions.new accepting.new result }
 {
-    let tree = Tree::of(nodes);
+    // first, so that its zeros are written once: a function's entry writes them too, and with a loop in between the compiler keeps both
     let mut table = [0u8; TABLE_SIZE];
+    let tree = Tree::of(nodes);
     tree.tabulate(letters, &mut table);
     build(
         &table,

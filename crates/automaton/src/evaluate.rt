@@ -10,15 +10,19 @@ use crate::coordinates::{ALL, coordinate};
 use reader::limits::NODE_LIMIT;
 use reader::nodes::{BinaryOp, Node, UnaryOp};
 
-// All valuations where bit `argument` of the letter is 1, else none.
+// Whether the letter has bit `argument`, which may be any number.
+fn has_name(letter: u64, argument: usize) -> bool
+    ensures { result ≡ bit letter argument }
+{
+    argument < WORD_BITS && test_bit(letter, argument as u64)
+}
+
+// All valuations where bit `argument` of the letter is 1, else none. A product, and no branch: the bit differs from letter to letter, so that a branch on it would
+// often be foreseen wrongly.
 fn name_word(letter: u64, argument: usize) -> u64
     ensures { result ≡ of_bits (λ v. bit letter argument) vector_limit }
 {
-    if argument < WORD_BITS && test_bit(letter, argument as u64) {
-        ALL
-    } else {
-        0
-    }
+    ALL * u64::from(has_name(letter, argument))
 }
 
 // A node's value for each valuation, from its operands'.

@@ -1,5 +1,8 @@
 // The limits of the automaton layer, and the sizes that follow from them. specs/Limits.antt and specs/inner/Sizes.antt have those that the contracts name.
-use reader::limits::OPERATOR_LIMIT;
+use reader::limits::{FIELD_SIZE, OPERATOR_LIMIT};
+
+// What one of its argument counted in a node's word while nodes were packed. It stays for whoever names it; nothing here reads it.
+pub const ARGUMENT_UNIT: usize = FIELD_SIZE * FIELD_SIZE;
 
 // Inputs at most, and outputs at most.
 pub const NAME_LIMIT: usize = 4;
@@ -15,6 +18,9 @@ pub const LETTER_LIMIT: usize = NUMBER_LIMIT * NUMBER_LIMIT;
 
 // Coordinates of a valuation at most: the formula's own, and one for each temporal operator.
 pub const COORDINATE_LIMIT: usize = OPERATOR_LIMIT + 1;
+
+// Places of operators by their coordinates, while 0 stood for none: a power of 2 above COORDINATE_LIMIT. It stays likewise.
+pub const PLACE_COUNT: usize = 8;
 
 // Valuations at most.
 pub const VECTOR_LIMIT: usize = 1 << COORDINATE_LIMIT;

@@ -2,7 +2,7 @@
 ghost use Rattle.automaton.specs.Trial.{Tried};
 
 use crate::alphabet::{first_over, power};
-use crate::texts::read_text;
+use crate::texts::{read_text, test_sizes};
 use crate::tree::Tree;
 use reader::limits::NODE_LIMIT;
 use reader::nodes::Node;
@@ -12,6 +12,7 @@ use reader::refusal::{Refusal, Subject};
 pub fn try_rule(i: usize, o: usize, text: &[u8], letters: &[u8]) -> Result<bool, Refusal>
     ensures { Tried i o text.now letters.now result }
 {
+    test_sizes(i, o, text)?;
     let mut nodes = [Node::Constant(false); NODE_LIMIT];
     let count = read_text(Subject::Rule, i, o, text, &mut nodes)?;
     if let Some(k) = first_over(letters, power(i + o)) {

@@ -1,18 +1,17 @@
 -- `automaton::evaluate::name_word` meets its contract: every bit is the letter's one. Assumes nothing.
-use Rattle.std.proofs.Common.{sym, ◌∙◌}
-use Rattle.automaton.specs.inner.Sizes.{word_bits}
-use Rattle.automaton.proofs.BitLaws.{bit_high, same_true, same_false}
+use Prim.Native.Nat.{◌*◌}
+use mathlib.Core.Path.{◌≡◌, ap, ◌∙◌, refl}
+use mathlib.Core.Bool.{Bool, true, false}
+use mir.Val.{bool_byte}
+use Rattle.automaton.specs.inner.Sizes.{vector_limit}
+use Rattle.automaton.specs.Bits.{of_bits}
+use Rattle.automaton.proofs.BitLaws.{same_true, same_false}
 use Rattle.automaton.proofs.evaluate.name_word.Goals as goal
-use Rattle.automaton.proofs.evaluate.name_word.Goals.{else-argument-lt-WORD_BITS-via-then-argument-lt-WORD_BITS+else-test_bit}
-use Rattle.automaton.proofs.evaluate.name_word.Goals.{else-argument-lt-WORD_BITS-via-else-argument-lt-WORD_BITS}
 
-pub returns-then-test_bit : goal.returns-then-test_bit
-returns-then-test_bit c = same_true _ (sym c.test_bit.ensures ∙ c.if-test_bit.true)
+-- all, or none
+all_if : (b : Bool) → 0xFFFF_FFFF_FFFF_FFFF * bool_byte b ≡ of_bits (λ v. b) vector_limit
+all_if true = same_true true refl
+all_if false = same_false false refl
 
-pub returns-else-argument-lt-WORD_BITS : goal.returns-else-argument-lt-WORD_BITS
-returns-else-argument-lt-WORD_BITS c =
-    elim c.else-argument-lt-WORD_BITS.branch [
-      | else-argument-lt-WORD_BITS-via-then-argument-lt-WORD_BITS+else-test_bit w ↦ same_false _ (sym w.test_bit.ensures ∙ w.if-test_bit.false)
-      | else-argument-lt-WORD_BITS-via-else-argument-lt-WORD_BITS w ↦
-          same_false _ (bit_high c.args.letter word_bits c.args.argument c.ranges.letter.fits w.if-argument-lt-WORD_BITS.false)
-    ]
+pub returns : goal.returns
+returns c = rw c.from.ensures (all_if c.has_name.result ∙ ap (λ (b : Bool). of_bits (λ v. b) vector_limit) c.has_name.ensures)

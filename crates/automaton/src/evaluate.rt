@@ -17,8 +17,8 @@ fn has_name(letter: u64, argument: usize) -> bool
     argument < WORD_BITS && test_bit(letter, argument as u64)
 }
 
-// All valuations where bit `argument` of the letter is 1, else none. A product, and no branch: the bit differs from letter to letter, so that a branch on it would
-// often be foreseen wrongly.
+// All valuations where bit `argument` of the letter is 1, else none. A product, and no branch: the bit differs from letter to letter, so that a branch on it
+// would often be foreseen wrongly.
 fn name_word(letter: u64, argument: usize) -> u64
     ensures { result ≡ of_bits (λ v. bit letter argument) vector_limit }
 {
